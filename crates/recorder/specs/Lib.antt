@@ -1,0 +1,17 @@
+pub mod Block
+pub mod Lasso
+pub mod Flag
+pub mod Recorder
+pub mod Slots
+pub mod Ties
+pub mod Live
+pub mod Bits
+pub mod Matching
+pub mod Places
+pub mod Bad
+pub mod Words
+pub mod SlotGraph
+pub mod SlotRuns
+pub mod LassoWords
+pub mod Least
+pub mod Demand

@@ -1,0 +1,5 @@
+pub mod First
+pub mod Layout
+pub mod Refusals
+pub mod Open
+pub mod BlockOf

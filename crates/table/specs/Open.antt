@@ -1,0 +1,92 @@
+-- Which tables are accepted, and which refusal every other gets. Document 01, "The table file" and lines 1 to 8 of "Refusal list".
+-- Definitions only. Assumes nothing.
+use mathlib.Core.Bool.{Bool, true, false, not, _&&_, _||_}
+use mathlib.Core.List.{List, [], _∷_}
+use mathlib.Core.Option.{Option, none, some}
+use Prim.Native.Nat.{ℕ, suc, _+_, _-_, _^_}
+use lib.Dec.{eqb, leb, ltb}
+use lib.ListN.{length}
+use Rattle.table.specs.First.{firstIn, isSome}
+use Rattle.table.specs.Layout.{kindOf, statesOf, edgesOf, setsOf, rowsOffset, targetsOffset, marksOffset, rowsAt, targetsAt, marksAt, lengthOf, tableOf, rowStart, target, mark}
+use Rattle.table.specs.declared.Refusal.{Refusal}
+use Rattle.table.specs.declared.Refusal.the-variants.{TooShort, WrongKind, WrongCount, WrongLayout, WrongRowStart, WrongTarget, EmptyRow, WrongMark}
+use Rattle.table.specs.declared.Opened.{Opened}
+use Rattle.table.specs.declared.Opened.the-variants.{Accepted, Refused}
+
+-- ---- the tests
+
+-- n is 1 to 64, e is 1 to 1,024, m is 0 to 4
+unfoldable pub countsFit : List ℕ → Bool
+countsFit b =
+    (leb 1 (statesOf b) && leb (statesOf b) 64) && (leb 1 (edgesOf b) && leb (edgesOf b) 1024) && leb (setsOf b) 4
+
+-- the three offsets and the length are the computed ones
+unfoldable pub layoutFits : List ℕ → Bool
+layoutFits b =
+    eqb (rowsOffset b) rowsAt
+    && eqb (targetsOffset b) (targetsAt (statesOf b))
+    && eqb (marksOffset b) (marksAt (statesOf b) (edgesOf b))
+    && eqb (length b) (lengthOf (statesOf b) (edgesOf b))
+
+-- row start i is wrong: first not 0, below the one before, above e, or last not e
+unfoldable pub rowStartWrong : List ℕ → ℕ → Bool
+rowStartWrong b i =
+    (eqb i 0 && not (eqb (rowStart b i) 0))
+    || (not (eqb i 0) && ltb (rowStart b i) (rowStart b (i - 1)))
+    || ltb (edgesOf b) (rowStart b i)
+    || (eqb i (statesOf b) && not (eqb (rowStart b i) (edgesOf b)))
+
+-- some row starts at target i: there is no target before it in its row
+unfoldable pub opensRow : List ℕ → ℕ → Bool
+opensRow b i = isSome (firstIn 0 (statesOf b) (λ s. eqb (rowStart b s) i))
+
+-- target i is n or more, or not above the one before it in its row
+unfoldable pub targetWrong : List ℕ → ℕ → Bool
+targetWrong b i = leb (statesOf b) (target b i) || (not (opensRow b i) && leb (target b i) (target b (i - 1)))
+
+-- the row of state s is empty
+unfoldable pub rowEmpty : List ℕ → ℕ → Bool
+rowEmpty b s = eqb (rowStart b s) (rowStart b (suc s))
+
+-- a mark bit of state s that must be clear is set: one past start, goal and the m sets
+unfoldable pub markWrong : List ℕ → ℕ → Bool
+markWrong b s = leb (2 ^ (2 + setsOf b)) (mark b s)
+
+-- ---- the list
+
+-- a line of the list: its refusal, where it is given
+abbrev pub given : Bool → Refusal → Option Refusal
+given true r = some r
+given false r = none
+
+-- a line whose place is the first such index
+abbrev pub givenAt : Option ℕ → (ℕ → Refusal) → Option Refusal
+givenAt none r = none
+givenAt (some i) r = some (r i)
+
+-- lines 1 to 8, in the list's order
+unfoldable pub linesOf : List ℕ → List (Option Refusal)
+linesOf b =
+    given (ltb (length b) 28) TooShort
+    ∷ given (not (eqb (kindOf b) 1)) WrongKind
+    ∷ given (not (countsFit b)) WrongCount
+    ∷ given (not (layoutFits b)) WrongLayout
+    ∷ givenAt (firstIn 0 (statesOf b + 1) (rowStartWrong b)) WrongRowStart
+    ∷ givenAt (firstIn 0 (edgesOf b) (targetWrong b)) WrongTarget
+    ∷ givenAt (firstIn 0 (statesOf b) (rowEmpty b)) EmptyRow
+    ∷ givenAt (firstIn 0 (statesOf b) (markWrong b)) WrongMark
+    ∷ []
+
+-- the first line that is given
+abbrev pub firstGiven : List (Option Refusal) → Option Refusal
+firstGiven [] = none
+firstGiven (none ∷ rs) = firstGiven rs
+firstGiven (some r ∷ rs) = some r
+
+abbrev pub answerOf : List ℕ → Option Refusal → Opened
+answerOf b none = Accepted (tableOf b)
+answerOf b (some r) = Refused r
+
+-- what opening the bytes answers
+unfoldable pub openOf : List ℕ → Opened
+openOf b = answerOf b (firstGiven (linesOf b))
