@@ -14,4 +14,5 @@ pub mod SlotGraph
 pub mod SlotRuns
 pub mod LassoWords
 pub mod Least
-pub mod Demand
+pub mod Listing
+pub mod Demand3

@@ -85,7 +85,7 @@ module _ (F : Flag) (B : Block) where
   found r [] none u f w = refl
   found r [] (place l) u f w = absurd (omega arith)
   found r (s ∷ ss) none u f w = rw u (ap earlier (found _ ss none u f (λ i h. w (suc i) (suc-le-suc h))))
-  found r (s ∷ ss) (place zero) u f w = rw (u, state-saved B (r .s) (w 0 (omega arith)))
+  found r (s ∷ ss) (place zero) u f w = simp (u, state-saved B (r .s) (w 0 (omega arith)))
   found r (s ∷ ss) (place (suc l)) u f w = rw u (ap earlier (found _ ss (place l) u (le-of-suc-le-suc f) (λ i h. w (suc i) (suc-le-suc h))))
 
   -- and its choice back

@@ -57,14 +57,38 @@ bit-forth (suc (suc y)) h = absurd (omega arith)
 two-halves : (m : ℕ) → 2 ^ (m + 1) ≡ 2 * 2 ^ m
 two-halves m = rw add-one (omega arith)
 
+-- S as the slot number counts: the states, what may be saved, the flag, the bits
+count-is : (n m : ℕ) → slotCount n m ≡ n * (n + 1) * 2 * 2 ^ m
+unfolding slotCount
+count-is n m = ap (λ (p : ℕ). n * (n + 1) * p) (two-halves m) ∙ sym (mul-assoc (n * (n + 1)) 2 (2 ^ m))
+
 module _ (n m : ℕ) where
   -- a record is the one of its slot number
   pub record-of-slot : (r : Record) → r .t ≤ n → r .v < 2 ^ m → recordOfSlot n m (slotOf n m r) ≡ r
   unfolding slotOf recordOfSlot
-  record-of-slot r ht hv =
-      let a : ℕ = r .s * (n + 1) + r .t in
-      let ht′ : r .t < n + 1 = omega arith in
-      rw (digits-div (a * 2 + bitOf (r .live)) hv, digits-mod (a * 2 + bitOf (r .live)) hv, digits-div a (bit-lt (r .live)), digits-mod a (bit-lt (r .live)), digits-div (r .s) ht′, digits-mod (r .s) ht′, bit-back (r .live))
+  record-of-slot r ht hv = λ i. record { s = s-back i; t = t-back i; live = live-back i; v = digits-mod c hv i }
+    where
+      -- the slot number without its bits, and that without its flag
+      a : ℕ
+      a = r .s * (n + 1) + r .t
+
+      c : ℕ
+      c = a * 2 + bitOf (r .live)
+
+      t-lt : r .t < n + 1
+      t-lt = omega (arith, ht)
+
+      halves : slotOf n m r / 2 ^ m / 2 ≡ a
+      halves = ap (λ (x : ℕ). x / 2) (digits-div c hv) ∙ digits-div a (bit-lt (r .live))
+
+      s-back : slotOf n m r / 2 ^ m / 2 / (n + 1) ≡ r .s
+      s-back = ap (λ (x : ℕ). x / (n + 1)) halves ∙ digits-div (r .s) t-lt
+
+      t-back : slotOf n m r / 2 ^ m / 2 % (n + 1) ≡ r .t
+      t-back = ap (λ (x : ℕ). x % (n + 1)) halves ∙ digits-mod (r .s) t-lt
+
+      live-back : eqb (slotOf n m r / 2 ^ m % 2) 1 ≡ r .live
+      live-back = ap (λ (x : ℕ). eqb (x % 2) 1) (digits-div c hv) ∙ ap (λ (x : ℕ). eqb x 1) (digits-mod a (bit-lt (r .live))) ∙ bit-back (r .live)
 
   -- a number is the slot number of its record
   pub slot-of-record : (x : ℕ) → slotOf n m (recordOfSlot n m x) ≡ x
@@ -72,13 +96,12 @@ module _ (n m : ℕ) where
   slot-of-record x = rw (div-add-mod' (x / 2 ^ m / 2) (n + 1), bit-forth (x / 2 ^ m % 2) (mod-lt _ (omega arith)), div-add-mod' (x / 2 ^ m) 2, div-add-mod' x (2 ^ m))
 
   pub slot-below : (r : Record) → InRange n m r → slotOf n m r < slotCount n m
-  unfolding slotOf slotCount
+  unfolding slotOf
   slot-below r ok =
       let t-lt : r .t < n + 1 = omega arith in
       let a = digits-lt (ok .s-in) t-lt in
       let b = digits-lt a (bit-lt (r .live)) in
-      let c = digits-lt b (ok .v-in) in
-      rw (two-halves m, ← mul-assoc) c
+      rw (count-is n m) (digits-lt b (ok .v-in))
 
   -- whatever the number, its record saves a state or nothing, and has bits of the m sets alone
   pub saved-in : (x : ℕ) → recordOfSlot n m x .t ≤ n
@@ -90,10 +113,10 @@ module _ (n m : ℕ) where
   bits-in x = mod-lt x (pow-pos m)
 
   pub record-in : (x : ℕ) → x < slotCount n m → InRange n m (recordOfSlot n m x)
-  unfolding recordOfSlot slotCount
+  unfolding recordOfSlot
   record-in x h = record {
     s-in =
-        let a : x / 2 ^ m < n * (n + 1) * 2 = div-lt-iff-lt-mul (pow-pos m) .1 (rw (two-halves m, ← mul-assoc) at h) in
+        let a : x / 2 ^ m < n * (n + 1) * 2 = div-lt-iff-lt-mul (pow-pos m) .1 (rw (count-is n m) at h) in
         let b : x / 2 ^ m / 2 < n * (n + 1) = omega arith in
         div-lt-iff-lt-mul {k = n + 1} (omega arith) .1 b;
     t-in = saved-in x;

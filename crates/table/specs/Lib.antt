@@ -3,3 +3,8 @@ pub mod Layout
 pub mod Refusals
 pub mod Open
 pub mod BlockOf
+pub mod Bits
+pub mod Facts
+pub mod Rows
+pub mod WellFormed
+pub mod Sound

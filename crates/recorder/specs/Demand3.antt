@@ -1,4 +1,5 @@
--- The third demand of the recorder, over document 01's flag, in one statement; and that the numbers of a run determine it.
+-- The third demand, of the rules themselves, in one statement, a field for each sentence; and that the numbers of a run of records are
+-- the numbers of document 01's ties and determine the run. The bytes of a translated table come later.
 -- Assumes nothing.
 use mathlib.Core.Path.{_≡_}
 use mathlib.Core.Bool.{true, false, cond}
@@ -16,7 +17,7 @@ use Rattle.recorder.specs.Bad.{IsLasso, bad-is-lasso, one-not-bad}
 use Rattle.recorder.specs.Words.{word, same-word, word-at}
 use Rattle.recorder.specs.declared.Record.{Record}
 
-pub record Demand (B : Block) : Type 0 where
+pub record Demand3 (B : Block) : Type 0 where
   -- the original's runs with a choice and the runs of records match one to one, goal marks kept
   pub one-to-one : Matching liveFlag B
   -- a run of k + 1 steps, s0..s(k+1), ends bad exactly where s(k+1) is the recorded sl and s0..sk with l is a lasso
@@ -30,8 +31,8 @@ pub record Demand (B : Block) : Type 0 where
   -- the numbers determine the run
   pub determined : (rs rs′ : List Record) → RecordRun liveFlag B rs → RecordRun liveFlag B rs′ → word B rs ≡ word B rs′ → rs ≡ rs′
 
-pub demand : (B : Block) → Sound B → Demand B
-demand B ok = record {
+pub demand3 : (B : Block) → Sound B → Demand3 B
+demand3 B ok = record {
   one-to-one = matching liveFlag B ok;
   bad = λ ss c k r f e. bad-is-lasso B ok ss r k e c f;
   never = λ ss c r e. one-not-bad liveFlag B ok ss r e c;

@@ -1,0 +1,4 @@
+pub mod Drawn
+pub mod HandRow
+pub mod Rows
+pub mod Twelve
