@@ -28,7 +28,8 @@ use Rattle.table.specs.declared.Opened.{Opened}
 use Rattle.table.specs.declared.Opened.the-variants.{Accepted, Refused}
 use Rattle.quote.specs.Sizes.{edgeCount}
 use Rattle.quote.specs.Boards.{boards, hasRoom, boardOf}
-use Rattle.quote.specs.Quote.{countBelow, membersOf, sheetOf, quoteOf}
+use Rattle.quote.specs.Members.{countBelow, membersOf}
+use Rattle.quote.specs.Quote.{sheetOf, quoteOf}
 use Rattle.quote.specs.declared.Quote.{Quote}
 use Rattle.handtables.specs.Drawn.{states, edges, setCount, bytesOf}
 use Rattle.handtables.specs.HandRow.{Answer, lasso, holds, Certificate, stopped, ended, HandRow, Answers, RowHolds}

@@ -1,3 +1,4 @@
 pub mod Sizes
 pub mod Boards
+pub mod Members
 pub mod Quote

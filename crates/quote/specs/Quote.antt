@@ -1,9 +1,6 @@
 -- What quoting a table answers. Document 01, "Quote sheet". Definitions only. Assumes nothing.
-use mathlib.Core.Bool.{Bool, cond}
 use mathlib.Core.List.{List, [], _∷_}
-use Prim.Native.Nat.{ℕ, zero, suc, _+_, _/_, _%_, _^_}
-use lib.Dec.{eqb}
-use Rattle.recorder.specs.Block.{Block}
+use Prim.Native.Nat.{ℕ}
 use Rattle.recorder.specs.Slots.{slotCount}
 use Rattle.table.specs.Open.{openOf}
 use Rattle.table.specs.BlockOf.{blockOf}
@@ -11,17 +8,9 @@ use Rattle.table.specs.declared.Opened.{Opened}
 use Rattle.table.specs.declared.Opened.the-variants.{Accepted, Refused}
 use Rattle.quote.specs.Sizes.{edgeCount, translatedLength}
 use Rattle.quote.specs.Boards.{boardOf}
+use Rattle.quote.specs.Members.{membersOf}
 use Rattle.quote.specs.declared.Quote.{Quote}
 use Rattle.quote.specs.declared.Quoted.{Quoted}
-
--- how many of the numbers below k pass the test P
-unfoldable pub countBelow : ℕ → (ℕ → Bool) → ℕ
-countBelow zero P = 0
-countBelow (suc k) P = countBelow k P + cond (P k) 1 0
-
--- the number of members of fairness set i. A set that is not below m has none (Laws.antt, `no-members`).
-unfoldable pub membersOf : Block → ℕ → ℕ
-membersOf B i = countBelow (B .n) (λ s. eqb (B .fair s / 2 ^ i % 2) 1)
 
 -- the quote sheet of an accepted table
 unfoldable pub sheetOf : List ℕ → ℕ → ℕ → ℕ → Quote

@@ -113,7 +113,7 @@ module _ (F : Flag) (B : Block) where
 
   -- once a state is saved, wishes do nothing
   keeps : (r : Record) (w : Bool) → unsaved B (r .t) ≡ false → saveOf B r w ≡ r .t
-  keeps r true u = rw u
+  keeps r true u = cc
   keeps r false u = refl
 
   read-saved : (r : Record) (rs : List Record) (c : Choice) → unsaved B (r .t) ≡ false → Steps (r ∷ rs) → after F B r (strike rs) c ≡ rs

@@ -1,6 +1,5 @@
--- The recorder, as document 01 has it: the record, its step, which records are bad, the runs of records, and the two ways
--- between them and the original's runs. Definitions only.
--- Assumes nothing.
+-- The recorder. Document 01, "The recorder": the record, its step with a save wish, which records are bad. Then the runs of records and the
+-- two ways between them and the original's runs, for the third demand. Definitions only. Assumes nothing.
 use mathlib.Core.Path.{_≡_}
 use mathlib.Core.Bool.{Bool, true, false, not, cond, _&&_}
 use mathlib.Core.List.{List, [], _∷_, map}
