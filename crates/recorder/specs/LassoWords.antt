@@ -62,7 +62,7 @@ closed-take ss k l len h again =
 
 module _ (F : Flag) (B : Block) (ok : Sound B) where
   -- the numbers of the records that record at l are the list of numbers
-  tie-word : (ss : List ℕ) (l : ℕ) → l < length ss → Run B (closed ss l) → word B (recordAt F B (closed ss l) (place l)) ≡ tieOf ss l
+  pub tie-word : (ss : List ℕ) (l : ℕ) → l < length ss → Run B (closed ss l) → word B (recordAt F B (closed ss l) (place l)) ≡ tieOf ss l
   tie-word ss l h run = ext-getD 0 _ _ (len ∙ length-closed ss l ∙ sym (length-tie ss l)) (λ i k. same i (rw len at k))
     where
       len : length (word B (recordAt F B (closed ss l) (place l))) ≡ length (closed ss l)
