@@ -23,6 +23,14 @@ pub not-passes : (a : Bool) → (not a ≡ true) ↔ (a ≡ false)
 not-passes true = (λ e. sym e, λ e. sym e)
 not-passes false = (λ e. refl, λ e. refl)
 
+pub passes-if-not-fails : (a : Bool) → ¬ (a ≡ false) → a ≡ true
+passes-if-not-fails true h = refl
+passes-if-not-fails false h = absurd (h refl)
+
+pub fails-if-not-passes : (a : Bool) → ¬ (a ≡ true) → a ≡ false
+fails-if-not-passes true h = absurd (h refl)
+fails-if-not-passes false h = refl
+
 pub eqb-passes : (m n : ℕ) → (eqb m n ≡ true) ↔ (m ≡ n)
 eqb-passes m n = (eqb-true m n, eq-eqb m n)
 

@@ -50,7 +50,7 @@ abbrev pub lengthOf : ℕ → ℕ → ℕ
 lengthOf n e = 32 + 5 * n + 4 * e
 
 -- ---- what the table holds: its counts and its three sections
-unfoldable pub tableOf : List ℕ → Table
+abbrev pub tableOf : List ℕ → Table
 tableOf b = record { states = statesOf b; edges = edgesOf b; sets = setsOf b }
 
 -- row start s: the state s owns the targets from row start s up to, not including, row start s + 1

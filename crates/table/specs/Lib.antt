@@ -5,6 +5,9 @@ pub mod Open
 pub mod BlockOf
 pub mod Bits
 pub mod Facts
+pub mod LaidOut
+pub mod Lines
 pub mod Rows
+pub mod Targets
 pub mod WellFormed
 pub mod Sound

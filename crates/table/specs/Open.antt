@@ -8,17 +8,16 @@ use lib.Dec.{eqb, leb, ltb}
 use lib.ListN.{length}
 use Rattle.table.specs.First.{firstIn, isSome}
 use Rattle.table.specs.Layout.{kindOf, statesOf, edgesOf, setsOf, rowsOffset, targetsOffset, marksOffset, rowsAt, targetsAt, marksAt, lengthOf, tableOf, rowStart, target, mark}
-use Rattle.table.specs.declared.Refusal.{Refusal}
-use Rattle.table.specs.declared.Refusal.the-variants.{TooShort, WrongKind, WrongCount, WrongLayout, WrongRowStart, WrongTarget, EmptyRow, WrongMark}
+use Rattle.table.specs.declared.refusal.Refusal.{Refusal}
+use Rattle.table.specs.declared.refusal.Refusal.the-variants.{TooShort, WrongKind, WrongCount, WrongLayout, WrongRowStart, WrongTarget, EmptyRow, WrongMark}
 use Rattle.table.specs.declared.Opened.{Opened}
 use Rattle.table.specs.declared.Opened.the-variants.{Accepted, Refused}
 
 -- ---- the tests
 
 -- n is 1 to 64, e is 1 to 1,024, m is 0 to 4
-unfoldable pub countsFit : List ℕ → Bool
-countsFit b =
-    (leb 1 (statesOf b) && leb (statesOf b) 64) && (leb 1 (edgesOf b) && leb (edgesOf b) 1024) && leb (setsOf b) 4
+unfoldable pub countsFit : ℕ → ℕ → ℕ → Bool
+countsFit n e m = (leb 1 n && leb n 64) && (leb 1 e && leb e 1024) && leb m 4
 
 -- the three offsets and the length are the computed ones
 unfoldable pub layoutFits : List ℕ → Bool
@@ -69,7 +68,7 @@ unfoldable pub linesOf : List ℕ → List (Option Refusal)
 linesOf b =
     given (ltb (length b) 28) TooShort
     ∷ given (not (eqb (kindOf b) 1)) WrongKind
-    ∷ given (not (countsFit b)) WrongCount
+    ∷ given (not (countsFit (statesOf b) (edgesOf b) (setsOf b))) WrongCount
     ∷ given (not (layoutFits b)) WrongLayout
     ∷ givenAt (firstIn 0 (statesOf b + 1) (rowStartWrong b)) WrongRowStart
     ∷ givenAt (firstIn 0 (edgesOf b) (targetWrong b)) WrongTarget

@@ -1,8 +1,8 @@
 -- The refusal list's numbers and places. Document 01, "Refusal list". The place is 0 where not named. Definitions only.
 -- Assumes nothing.
 use Prim.Native.Nat.{ℕ}
-use Rattle.table.specs.declared.Refusal.{Refusal}
-use Rattle.table.specs.declared.Refusal.the-variants.{TooShort, WrongKind, WrongCount, WrongLayout, WrongRowStart, WrongTarget, EmptyRow, WrongMark, ShortWorkspace, ShortReport, ShortOutput, WrongRecord, NoEdge}
+use Rattle.table.specs.declared.refusal.Refusal.{Refusal}
+use Rattle.table.specs.declared.refusal.Refusal.the-variants.{TooShort, WrongKind, WrongCount, WrongLayout, WrongRowStart, WrongTarget, EmptyRow, WrongMark, ShortWorkspace, ShortReport, ShortOutput, WrongRecord, NoEdge}
 
 abbrev pub numberOf : Refusal → ℕ
 numberOf TooShort = 1

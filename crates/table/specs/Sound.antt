@@ -38,7 +38,7 @@ module _ (b : List ℕ) (w : WellFormed b) where
   sound = record {
     edge-in = λ s s′ e.
         let (l, (i, f, g, q)) = edge-is b s s′ .0 e in
-        let p : target b i < statesOf b = w .targets-in i (omega (arith, row-starts-to b (w .rows-rise) (w .last-row) (suc s) l)) in
+        let p : target b i < statesOf b = w .targets-in i (omega (arith, row-starts-to b (w .rows) (suc s) l)) in
         (l, omega arith);
     start-in = λ s e. start-in s (eqb-passes (mark b s % 2) 1 .0 e) (decLt s (statesOf b));
     fair-in = λ s l. omega (arith, mark-below s l, pow-add 2 2 (setsOf b));

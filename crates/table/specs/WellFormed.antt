@@ -2,22 +2,23 @@
 -- each line of the refusal list says where it is not given, then the theorem. Assumes nothing.
 use mathlib.Core.Path.{_≡_, refl, ap, _∙_}
 use mathlib.Core.Bool.{Bool, true, false, true≢false}
-use mathlib.Core.Logic.{_↔_, Iff·rfl, Iff·trans}
+use mathlib.Core.Logic.{_↔_}
 use mathlib.Core.List.{List, _∷_}
 use mathlib.Core.Option.{Option, none, some, Option·some-ne-none}
-use Prim.Native.Nat.{ℕ, suc, _+_, _-_, _≤_, _<_, zero-le}
-use native.Mathlib.Decide.{decLt}
+use Prim.Native.Nat.{ℕ, suc, _+_, _≤_, _<_, zero-le}
 use native.Mathlib.Omega.{arith}
 use lib.ListN.{length}
 use Rattle.recorder.specs.Block.{HasBit}
 use Rattle.table.specs.First.{firstIn, first-none}
 use Rattle.table.specs.Layout.{kindOf, statesOf, edgesOf, setsOf, rowsOffset, targetsOffset, marksOffset, rowsAt, targetsAt, marksAt, lengthOf, tableOf, rowStart, target, mark}
-use Rattle.table.specs.Open.{countsFit, layoutFits, opensRow, targetWrong, rowEmpty, markWrong, given, givenAt, linesOf, firstGiven, answerOf, openOf}
+use Rattle.table.specs.Open.{rowEmpty, markWrong, given, givenAt, linesOf, firstGiven, answerOf, openOf}
 use Rattle.table.specs.Bits.{low-bits}
 use Rattle.table.specs.Facts.{facts}
-use Rattle.table.specs.Rows.{RowsRise, row-starts-rise, row-starts-to, row-of, opens-no-row, row-starts-right}
+use Rattle.table.specs.LaidOut.{counts-right, layout-right}
+use Rattle.table.specs.Rows.{RowsRight, row-starts-right}
+use Rattle.table.specs.Targets.{targets-right}
 use Rattle.table.specs.declared.Table.{Table}
-use Rattle.table.specs.declared.Refusal.{Refusal}
+use Rattle.table.specs.declared.refusal.Refusal.{Refusal}
 use Rattle.table.specs.declared.Opened.the-variants.{Accepted}
 
 pub record WellFormed (b : List ℕ) : Type 0 where
@@ -33,71 +34,13 @@ pub record WellFormed (b : List ℕ) : Type 0 where
   pub marks-offset : marksOffset b ≡ marksAt (statesOf b) (edgesOf b)
   pub size : length b ≡ lengthOf (statesOf b) (edgesOf b)
   -- the first row start is 0, they never fall, the last is e
-  pub first-row : rowStart b 0 ≡ 0
-  pub rows-rise : (s : ℕ) → s < statesOf b → rowStart b s ≤ rowStart b (suc s)
-  pub last-row : rowStart b (statesOf b) ≡ edgesOf b
+  pub rows : RowsRight b
   -- each target is below n, rising strictly within a row; no row is empty
   pub targets-in : (i : ℕ) → i < edgesOf b → target b i < statesOf b
   pub targets-rise : (s i : ℕ) → s < statesOf b → rowStart b s ≤ i → suc i < rowStart b (suc s) → target b i < target b (suc i)
   pub no-empty : (s : ℕ) → s < statesOf b → ¬ (rowStart b s ≡ rowStart b (suc s))
   -- bits past start, goal and the m sets are clear
   pub marks-clear : (s : ℕ) → s < statesOf b → (i : ℕ) → 2 + setsOf b ≤ i → ¬ HasBit (mark b s) i
-
--- ---- lines 3 and 4
-
--- nested as the test is
-counts-right : (b : List ℕ) → (countsFit b ≡ true)
-    ↔ ((((1 ≤ statesOf b) × (statesOf b ≤ 64)) × ((1 ≤ edgesOf b) × (edgesOf b ≤ 1024))) × (setsOf b ≤ 4))
-unfolding countsFit
-counts-right b = simp facts Iff·rfl
-
-layout-right : (b : List ℕ) → (layoutFits b ≡ true)
-    ↔ ((((rowsOffset b ≡ rowsAt) × (targetsOffset b ≡ targetsAt (statesOf b))) × (marksOffset b ≡ marksAt (statesOf b) (edgesOf b)))
-    × (length b ≡ lengthOf (statesOf b) (edgesOf b)))
-unfolding layoutFits
-layout-right b = simp facts Iff·rfl
-
--- ---- line 6
-
--- the record's words on targets
-abbrev TargetsRight : List ℕ → Type 0
-TargetsRight b =
-    ((i : ℕ) → i < edgesOf b → target b i < statesOf b)
-    × ((s i : ℕ) → s < statesOf b → rowStart b s ≤ i → suc i < rowStart b (suc s) → target b i < target b (suc i))
-
--- the line's words on target i
-abbrev TargetRight : List ℕ → ℕ → Type 0
-TargetRight b i = (target b i < statesOf b) × (opensRow b i ≡ false → target b (i - 1) < target b i)
-
-targets-say : (b : List ℕ) → (firstIn 0 (edgesOf b) (targetWrong b) ≡ none) ↔ ((i : ℕ) → 0 ≤ i → i < edgesOf b → TargetRight b i)
-unfolding targetWrong
-targets-say b = simp (first-none, facts) Iff·rfl
-
-module _ (b : List ℕ) (first : rowStart b 0 ≡ 0) (rises : RowsRise b) (last : rowStart b (statesOf b) ≡ edgesOf b) where
-  -- a target that stands in a row after another opens no row
-  inside-opens-none : (s i : ℕ) → s < statesOf b → rowStart b s ≤ i → suc i < rowStart b (suc s) → opensRow b (suc i) ≡ false
-  inside-opens-none s i l f g = opens-no-row b (suc i) .1 (λ s′ l′ e. go s′ l′ e (decLt s s′))
-    where
-      go : (s′ : ℕ) → s′ < statesOf b → rowStart b s′ ≡ suc i → Dec (s < s′) → ⊥
-      go s′ l′ e (yes h) = omega (arith, row-starts-rise b rises (suc s) s′ h (omega arith))
-      go s′ l′ e (no h) = omega (arith, row-starts-rise b rises s′ s (omega arith) (omega arith))
-
-  targets-right : (firstIn 0 (edgesOf b) (targetWrong b) ≡ none) ↔ TargetsRight b
-  targets-right = Iff·trans (targets-say b) (λ h. (λ i l. h i zero-le l .0, to h), λ h i z l. (h .0 i l, from h i l (row-of b first last i l)))
-    where
-      to : ((i : ℕ) → 0 ≤ i → i < edgesOf b → TargetRight b i)
-          → (s i : ℕ) → s < statesOf b → rowStart b s ≤ i → suc i < rowStart b (suc s) → target b i < target b (suc i)
-      to h s i l f g =
-          let below : suc i < edgesOf b = omega (arith, row-starts-to b rises last (suc s) l) in
-          let p : suc i - 1 ≡ i = omega arith in
-          rw p at (h (suc i) zero-le below .1 (inside-opens-none s i l f g))
-
-      from : TargetsRight b → (i : ℕ) → i < edgesOf b → (s : ℕ) × (s < statesOf b) × (rowStart b s ≤ i) × (i < rowStart b (suc s))
-          → opensRow b i ≡ false → target b (i - 1) < target b i
-      from h i l (s, p, f, g) e =
-          let q : rowStart b s < i = omega (arith, opens-no-row b i .0 e s p) in
-          let r : suc (i - 1) ≡ i = omega arith in
-          rw r at (h .1 s (i - 1) p (omega arith) (omega arith))
 
 -- ---- lines 7 and 8
 
@@ -130,9 +73,9 @@ lines-off : (b : List ℕ) → (firstGiven (linesOf b) ≡ none) ↔ WellFormed 
 unfolding linesOf
 lines-off b =
     simp (none-given, line-off, line-at-off, facts, counts-right, layout-right, row-starts-right, rows-not-empty, marks-right) (
-      λ (header, (kind, (counts, (layout, ((first, rises, last), (targets, rest)))))).
-          let (targets-in, targets-rise) = targets-right b first rises last .0 targets in search targets-in,
-      λ w. search (targets-right b (w .first-row) (w .rows-rise) (w .last-row) .1 (w .targets-in, w .targets-rise)),
+      λ (header, (kind, (counts, (layout, (rows, (targets, rest)))))).
+          let (targets-in, targets-rise) = targets-right b rows .0 targets in search targets-in,
+      λ w. search (targets-right b (w .rows) .1 (w .targets-in, w .targets-rise)),
     )
 
 -- an answer that accepts is given where no line is, and counts as the header does

@@ -1,4 +1,16 @@
-// The table file: what opening it answers. Document 01, "The table file" and "Refusal list". The rules stand in specs/.
+// The table file: opening it, and reading an accepted one. Document 01, "The table file" and "Refusal list". The rules stand in specs/.
+mod faults;
+mod read;
+mod refusal;
+
+pub use read::has_edge;
+pub use read::mark;
+pub use read::row_start;
+pub use read::target;
+pub use refusal::Refusal;
+ghost use mathlib.Core.Path.{_≡_};
+ghost use Rattle.table.specs.Open.{openOf};
+use faults::Found;
 
 // What an accepted table counts: n states, e edges, m fairness sets.
 pub struct Table {
@@ -7,25 +19,44 @@ pub struct Table {
     pub sets: usize,
 }
 
-// A line of the refusal list, with its place where the list names one.
-pub enum Refusal {
-    TooShort,
-    WrongKind,
-    WrongCount,
-    WrongLayout,
-    WrongRowStart(usize),
-    WrongTarget(usize),
-    EmptyRow(usize),
-    WrongMark(usize),
-    ShortWorkspace,
-    ShortReport,
-    ShortOutput,
-    WrongRecord,
-    NoEdge,
-}
-
 // What opening a table answers.
 pub enum Opened {
     Accepted(Table),
     Refused(Refusal),
+}
+
+// Accepts or refuses the bytes.
+pub fn open(bytes: &[u8]) -> Opened
+    ensures { λ r. ⌜ r ≡ openOf (now (bytes .entry)) ⌝ }
+{
+    if bytes.len() < 28 {
+        return Opened::Refused(Refusal::TooShort);
+    }
+    if read::word(bytes, 0) != 1 {
+        return Opened::Refused(Refusal::WrongKind);
+    }
+    let t = Table {
+        states: read::word(bytes, 4),
+        edges: read::word(bytes, 8),
+        sets: read::word(bytes, 12),
+    };
+    if !faults::counts_fit(t) {
+        return Opened::Refused(Refusal::WrongCount);
+    }
+    if !faults::layout_fits(bytes, t) {
+        return Opened::Refused(Refusal::WrongLayout);
+    }
+    if let Found::At(i) = faults::wrong_row_start(bytes, t) {
+        return Opened::Refused(Refusal::WrongRowStart(i));
+    }
+    if let Found::At(i) = faults::wrong_target(bytes, t) {
+        return Opened::Refused(Refusal::WrongTarget(i));
+    }
+    if let Found::At(s) = faults::empty_row(bytes, t) {
+        return Opened::Refused(Refusal::EmptyRow(s));
+    }
+    if let Found::At(s) = faults::wrong_mark(bytes, t) {
+        return Opened::Refused(Refusal::WrongMark(s));
+    }
+    Opened::Accepted(t)
 }

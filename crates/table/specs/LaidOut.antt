@@ -1,0 +1,48 @@
+-- What lines 1 to 4 of the refusal list leave: the counts are the header's and inside their ranges, and the length is theirs. The scans of
+-- lines 5 to 8 need this to read inside the bytes. Assumes nothing.
+use mathlib.Core.Path.{_≡_}
+use mathlib.Core.Bool.{true}
+use mathlib.Core.Logic.{_↔_, Iff·rfl}
+use mathlib.Core.List.{List}
+use mathlib.Core.Option.{Option, none, some}
+use Prim.Native.Nat.{ℕ, _≤_}
+use lib.ListN.{length}
+use Rattle.table.specs.Layout.{statesOf, edgesOf, setsOf, rowsOffset, targetsOffset, marksOffset, rowsAt, targetsAt, marksAt, lengthOf, tableOf}
+use Rattle.table.specs.Open.{countsFit, layoutFits}
+use Rattle.table.specs.Facts.{facts}
+use Rattle.table.specs.declared.Table.{Table}
+use Rattle.table.specs.declared.faults.Found.{Found}
+use Rattle.table.specs.declared.faults.Found.the-variants.{At, Nothing}
+
+pub record LaidOut (b : List ℕ) (t : Table) : Type 0 where
+  pub states-are : t .states ≡ statesOf b
+  pub edges-are : t .edges ≡ edgesOf b
+  pub sets-are : t .sets ≡ setsOf b
+  pub states-from : 1 ≤ t .states
+  pub states-to : t .states ≤ 64
+  pub edges-from : 1 ≤ t .edges
+  pub edges-to : t .edges ≤ 1024
+  pub sets-to : t .sets ≤ 4
+  pub size : length b ≡ lengthOf (t .states) (t .edges)
+
+-- so the table is the one that the header counts
+pub table-is : (b : List ℕ) (t : Table) → LaidOut b t → t ≡ tableOf b
+table-is b t l = λ i. record { states = l .states-are i; edges = l .edges-are i; sets = l .sets-are i }
+
+-- a first index, as the code answers it
+abbrev pub foundOf : Option ℕ → Found
+foundOf none = Nothing
+foundOf (some i) = At i
+
+-- ---- what lines 3 and 4 say where they are not given, nested as the tests are
+
+pub counts-right : (b : List ℕ) → (countsFit (statesOf b) (edgesOf b) (setsOf b) ≡ true)
+    ↔ ((((1 ≤ statesOf b) × (statesOf b ≤ 64)) × ((1 ≤ edgesOf b) × (edgesOf b ≤ 1024))) × (setsOf b ≤ 4))
+unfolding countsFit
+counts-right b = simp facts Iff·rfl
+
+pub layout-right : (b : List ℕ) → (layoutFits b ≡ true)
+    ↔ ((((rowsOffset b ≡ rowsAt) × (targetsOffset b ≡ targetsAt (statesOf b))) × (marksOffset b ≡ marksAt (statesOf b) (edgesOf b)))
+    × (length b ≡ lengthOf (statesOf b) (edgesOf b)))
+unfolding layoutFits
+layout-right b = simp facts Iff·rfl
