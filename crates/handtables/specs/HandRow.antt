@@ -43,7 +43,7 @@ Answers B holds = NoLasso B
 -- the row holds of the rules: the table is accepted, the quote is as said, with board A, and the answer is right
 pub record RowHolds (r : HandRow) : Type 0 where
   pub accepted : openOf (bytesOf (r .table)) ≡ Accepted (record { states = states (r .table); edges = edges (r .table); sets = setCount (r .table) })
-  pub quoted : quoteOf (bytesOf (r .table)) .quote ≡ record {
+  pub quoted : quoteOf (bytesOf (r .table)) .sheet ≡ record {
     slots = r .sizes .S;
     edges = r .sizes .E;
     bytes = r .sizes .bytes;

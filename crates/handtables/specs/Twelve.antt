@@ -30,7 +30,7 @@ use Rattle.quote.specs.Sizes.{edgeCount}
 use Rattle.quote.specs.Boards.{boards, hasRoom, boardOf}
 use Rattle.quote.specs.Members.{countBelow, membersOf}
 use Rattle.quote.specs.Quote.{sheetOf, quoteOf}
-use Rattle.quote.specs.declared.Quote.{Quote}
+use Rattle.quote.specs.declared.Sheet.{Sheet}
 use Rattle.handtables.specs.Drawn.{states, edges, setCount, bytesOf}
 use Rattle.handtables.specs.HandRow.{Answer, lasso, holds, Certificate, stopped, ended, HandRow, Answers, RowHolds}
 use Rattle.handtables.specs.Rows.{handRows}
@@ -44,17 +44,17 @@ tableNumbers t = t .states ∷ t .edges ∷ t .sets ∷ []
 abbrev tableFrom : List ℕ → Table
 tableFrom xs = record { states = getD xs 0 0; edges = getD xs 1 0; sets = getD xs 2 0 }
 
-abbrev quoteNumbers : Quote → List ℕ
+abbrev quoteNumbers : Sheet → List ℕ
 quoteNumbers q = q .slots ∷ q .edges ∷ q .bytes ∷ q .board ∷ q .members
 
-abbrev quoteFrom : List ℕ → Quote
+abbrev quoteFrom : List ℕ → Sheet
 quoteFrom xs = record { slots = getD xs 0 0; edges = getD xs 1 0; bytes = getD xs 2 0; members = drop 4 xs; board = getD xs 3 0 }
 
 acceptedAs : Table → Opened → Bool
 acceptedAs u (Accepted t) = same (tableNumbers t) (tableNumbers u)
 acceptedAs u (Refused r) = false
 
-sameQuote : Quote → Quote → Bool
+sameQuote : Sheet → Sheet → Bool
 sameQuote p q = same (quoteNumbers p) (quoteNumbers q)
 
 -- a lasso wants a search that stopped at the word of that lasso; "holds" one that ended
@@ -70,13 +70,13 @@ answerTest B holds (ended es) = safeTest (slotGraph liveFlag B) (startSlots live
 tableIn : HandRow → Table
 tableIn r = record { states = states (r .table); edges = edges (r .table); sets = setCount (r .table) }
 
-quoteIn : HandRow → Quote
+quoteIn : HandRow → Sheet
 quoteIn r = record { slots = r .sizes .S; edges = r .sizes .E; bytes = r .sizes .bytes; members = r .members; board = 0 }
 
 fits : HandRow → Bool
 fits r =
     let b = bytesOf (r .table) in
-    acceptedAs (tableIn r) (openOf b) && (sameQuote (quoteOf b .quote) (quoteIn r) && answerTest (blockOf b) (r .answer) (r .certificate))
+    acceptedAs (tableIn r) (openOf b) && (sameQuote (quoteOf b .sheet) (quoteIn r) && answerTest (blockOf b) (r .answer) (r .certificate))
 
 allFit : List HandRow → Bool
 allFit [] = true
@@ -89,7 +89,7 @@ unfolding acceptedAs
 accepted-as u (Accepted t) e = ap (λ (xs : List ℕ). Accepted (tableFrom xs)) (same-equal (tableNumbers t) (tableNumbers u) e)
 accepted-as u (Refused r) e = absurd (false≢true e)
 
-same-quote : (p q : Quote) → sameQuote p q ≡ true → p ≡ q
+same-quote : (p q : Sheet) → sameQuote p q ≡ true → p ≡ q
 unfolding sameQuote
 same-quote p q e = ap quoteFrom (same-equal (quoteNumbers p) (quoteNumbers q) e)
 
@@ -115,7 +115,7 @@ row-holds : (r : HandRow) → fits r ≡ true → RowHolds r
 unfolding fits tableIn quoteIn
 row-holds r e =
     let p = both (acceptedAs (tableIn r) (openOf (bytesOf (r .table)))) _ e in
-    let q = both (sameQuote (quoteOf (bytesOf (r .table)) .quote) (quoteIn r)) _ (p .1) in
+    let q = both (sameQuote (quoteOf (bytesOf (r .table)) .sheet) (quoteIn r)) _ (p .1) in
     let accepted = accepted-as (tableIn r) _ (p .0) in
     record {
       accepted = accepted;

@@ -7,10 +7,7 @@ use Prim.Native.Nat.{ℕ}
 use lib.Dec.{leb}
 use lib.ListN.{length, getD}
 use Rattle.table.specs.First.{firstIn}
-
-pub record Board : Type 0 where
-  pub slots : ℕ
-  pub edges : ℕ
+use Rattle.quote.specs.declared.boards.Board.{Board}
 
 -- rows A to H
 unfoldable pub boards : List Board

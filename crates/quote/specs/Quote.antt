@@ -1,4 +1,5 @@
--- What quoting a table answers. Document 01, "Quote sheet". Definitions only. Assumes nothing.
+-- What quoting a table answers. Document 01, "Quote sheet". Definitions, and one law. Assumes nothing.
+use mathlib.Core.Path.{_≡_}
 use mathlib.Core.List.{List, [], _∷_}
 use Prim.Native.Nat.{ℕ}
 use Rattle.recorder.specs.Slots.{slotCount}
@@ -9,11 +10,11 @@ use Rattle.table.specs.declared.Opened.the-variants.{Accepted, Refused}
 use Rattle.quote.specs.Sizes.{edgeCount, translatedLength}
 use Rattle.quote.specs.Boards.{boardOf}
 use Rattle.quote.specs.Members.{membersOf}
-use Rattle.quote.specs.declared.Quote.{Quote}
+use Rattle.quote.specs.declared.Sheet.{Sheet}
 use Rattle.quote.specs.declared.Quoted.{Quoted}
 
 -- the quote sheet of an accepted table
-unfoldable pub sheetOf : List ℕ → ℕ → ℕ → ℕ → Quote
+unfoldable pub sheetOf : List ℕ → ℕ → ℕ → ℕ → Sheet
 sheetOf b n e m =
     let S = slotCount n m in
     let E = edgeCount n e m in
@@ -26,14 +27,19 @@ sheetOf b n e m =
       board = boardOf S E;
     }
 
--- on a refusal the quote is all zero
-abbrev pub noQuote : Quote
-noQuote = record { slots = 0; edges = 0; bytes = 0; members = 0 ∷ 0 ∷ 0 ∷ 0 ∷ []; board = 0 }
+-- on a refusal the sheet is all zero
+abbrev pub noSheet : Sheet
+noSheet = record { slots = 0; edges = 0; bytes = 0; members = 0 ∷ 0 ∷ 0 ∷ 0 ∷ []; board = 0 }
 
-abbrev pub sheetFor : List ℕ → Opened → Quote
+abbrev pub sheetFor : List ℕ → Opened → Sheet
 sheetFor b (Accepted t) = sheetOf b (t .states) (t .edges) (t .sets)
-sheetFor b (Refused r) = noQuote
+sheetFor b (Refused r) = noSheet
 
 -- what quoting the bytes answers
 unfoldable pub quoteOf : List ℕ → Quoted
-quoteOf b = record { answer = openOf b; quote = sheetFor b (openOf b) }
+quoteOf b = record { answer = openOf b; sheet = sheetFor b (openOf b) }
+
+-- the sheet that goes with opening's answer makes the quote
+pub quote-is : (b : List ℕ) (o : Opened) → o ≡ openOf b → (s : Sheet) → s ≡ sheetFor b o → record { answer = o; sheet = s } ≡ quoteOf b
+unfolding quoteOf
+quote-is b o e s q = cc

@@ -1,12 +1,12 @@
 -- The sizes of the recorded table. Document 01, "The recorder": S = n(n+1)·2^(m+1) slots, E = e(n+2)·2^(m+1) edges, 32 + 5S + 4E bytes.
 -- First the definitions (S is the recorder's `slotCount`), then the law that says where n + 2 comes from. Assumes nothing.
-use mathlib.Core.Path.{_≡_, refl, sym, ap, _∙_}
-use mathlib.Core.Bool.{Bool, true, false, cond}
-use Prim.Native.Nat.{ℕ, zero, suc, _+_, _*_, _^_, _≤_, _<_}
-use native.Mathlib.Nat.{mul-assoc}
-use native.Mathlib.Numerals.{add-one}
+use mathlib.Core.Path.{_≡_, refl}
+use mathlib.Core.Bool.{cond}
+use Prim.Native.Nat.{ℕ, zero, suc, _+_, _*_, _^_, _≤_}
+use native.Mathlib.Nat.{mul-le-mul}
 use native.Mathlib.Omega.{arith}
 use lib.Dec.{eqb}
+use lib.Pow.{pow-mono}
 use borrow.Author.Tests.{eq-eqb, ne-eqb}
 use Rattle.table.specs.Layout.{lengthOf}
 
@@ -37,3 +37,11 @@ saved-steps n (suc k) h = rw (saved-steps n k (omega arith), ne-eqb k n (λ e. o
 pub edges-counted : (n e m : ℕ) → edgeCount n e m ≡ e * sumBelow (suc n) (stepsOf n) * 2 ^ (m + 1)
 unfolding edgeCount
 edges-counted n e m = rw (saved-steps n n (omega arith), eq-eqb n n refl)
+
+-- with at most 64 states, 1,024 edges and 8 sets there are not many edges
+pub edges-small : (n e m : ℕ) → n ≤ 64 → e ≤ 1024 → m ≤ 8 → edgeCount n e m ≤ 1024 * 66 * 2 ^ 9
+unfolding edgeCount
+edges-small n e m hn he hm =
+    let h : n + 2 ≤ 66 = omega arith in
+    let k : m + 1 ≤ 9 = omega arith in
+    mul-le-mul (mul-le-mul he h) (pow-mono k)

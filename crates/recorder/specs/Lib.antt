@@ -3,6 +3,8 @@ pub mod Lasso
 pub mod Flag
 pub mod Recorder
 pub mod Slots
+pub mod Says
+pub mod Fits
 pub mod Ties
 pub mod Live
 pub mod Bits
@@ -11,6 +13,7 @@ pub mod Places
 pub mod Bad
 pub mod Words
 pub mod SlotGraph
+pub mod Successors
 pub mod SlotRuns
 pub mod LassoWords
 pub mod Least

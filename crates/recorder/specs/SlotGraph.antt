@@ -94,13 +94,18 @@ module _ (F : Flag) (B : Block) (ok : Sound B) where
       let p = parts s s′ (unsaved B (B .n)) (unsaved B (B .n)) (ap (number B) (sym a) ∙ q ∙ ap (number B) a′) in
       e ∙ ap (λ (s : ℕ). slot B (startOf F B s)) (p .0) ∙ sym e′
 
+  -- successors of one record with one number are one record
+  pub same-number : (r : Record) (s′ s″ : ℕ) (w w′ : Bool) → B .edge (r .s) s′ ≡ true
+      → number B (stepOf F B r s′ w) ≡ number B (stepOf F B r s″ w′) → stepOf F B r s′ w ≡ stepOf F B r s″ w′
+  same-number r s′ s″ w w′ h q =
+      let p = parts s′ s″ _ _ q in
+      ap₂ (λ (s t : ℕ). moved F B r s t) (p .0) (same-save r w w′ (ok .edge-in _ _ h .0) (p .1))
+
   pub edges-apart : (x y z : ℕ) → slotGraph F B .Edge x y → slotGraph F B .Edge x z → slotGraph F B .label y ≡ slotGraph F B .label z → y ≡ z
   edges-apart x y z (s′, w, h, e) (s″, w′, h′, e′) q =
       let a = ap (at B) e ∙ at-next x s′ w h in
       let a′ = ap (at B) e′ ∙ at-next x s″ w′ h′ in
-      let p = parts s′ s″ _ _ (ap (number B) (sym a) ∙ q ∙ ap (number B) a′) in
-      let t = same-save (at B x) w w′ (ok .edge-in _ _ h .0) (p .1) in
-      e ∙ ap₂ (λ (s t : ℕ). slot B (moved F B (at B x) s t)) (p .0) t ∙ sym e′
+      e ∙ ap (slot B) (same-number (at B x) s′ s″ w w′ h (ap (number B) (sym a) ∙ q ∙ ap (number B) a′)) ∙ sym e′
 
   -- the word of a run of slots says where the run ends
   pub slots-determined : Determined (slotGraph F B)

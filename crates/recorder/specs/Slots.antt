@@ -41,7 +41,7 @@ pub record InRange (n m : ℕ) (r : Record) : Type 0 where
 
 -- ---- laws
 
-bit-lt : (b : Bool) → bitOf b < 2
+pub bit-lt : (b : Bool) → bitOf b < 2
 bit-lt true = omega arith
 bit-lt false = omega arith
 

@@ -1,4 +1,5 @@
 pub mod First
+pub mod Scan
 pub mod Layout
 pub mod Refusals
 pub mod Open
@@ -6,6 +7,7 @@ pub mod BlockOf
 pub mod Bits
 pub mod Facts
 pub mod LaidOut
+pub mod Inside
 pub mod Lines
 pub mod Rows
 pub mod Targets

@@ -14,7 +14,7 @@ use Rattle.table.specs.Layout.{kindOf, statesOf, edgesOf, setsOf, rowsOf
 use Rattle.table.specs.Open.{rowEmpty, markWrong, given, givenAt, linesOf, firstGiven, answerOf, openOf}
 use Rattle.table.specs.Bits.{low-bits}
 use Rattle.table.specs.Facts.{facts}
-use Rattle.table.specs.LaidOut.{counts-right, layout-right}
+use Rattle.table.specs.LaidOut.{LaidOut, counts-right, layout-right}
 use Rattle.table.specs.Rows.{RowsRight, row-starts-right}
 use Rattle.table.specs.Targets.{targets-right}
 use Rattle.table.specs.declared.Table.{Table}
@@ -95,3 +95,23 @@ accepted-table b t e = answer-accepts b (firstGiven (linesOf b)) t e .1
 -- so whatever is accepted is well-formed
 pub well-formed : (b : List ℕ) (t : Table) → openOf b ≡ Accepted t → WellFormed b
 well-formed b t e = accepted b .0 (e ∙ ap Accepted (accepted-table b t e))
+
+-- and laid out by its counts
+pub laid : (b : List ℕ) (t : Table) → openOf b ≡ Accepted t → LaidOut b t
+laid b t e =
+    let w = well-formed b t e in
+    let is = accepted-table b t e in
+    let s = ap (λ (t : Table). t .states) is in
+    let d = ap (λ (t : Table). t .edges) is in
+    let m = ap (λ (t : Table). t .sets) is in
+    record {
+      states-are = s;
+      edges-are = d;
+      sets-are = m;
+      states-from = omega arith;
+      states-to = omega arith;
+      edges-from = omega arith;
+      edges-to = omega arith;
+      sets-to = omega arith;
+      size = omega arith;
+    }

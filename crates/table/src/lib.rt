@@ -3,7 +3,10 @@ mod faults;
 mod read;
 mod refusal;
 
+pub use read::fair;
 pub use read::has_edge;
+pub use read::has_goal;
+pub use read::is_start;
 pub use read::mark;
 pub use read::row_start;
 pub use read::target;

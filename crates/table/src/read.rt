@@ -1,9 +1,10 @@
 // The reading functions: what stands at a place of the file. Each asks just that the place is inside; an accepted table's places are, by
 // the laws of specs/Inside.antt.
 ghost use mathlib.Core.Path.{_≡_};
-ghost use Prim.Native.Nat.{_+_, _*_, _≤_, _<_};
+ghost use Prim.Native.Nat.{_+_, _≤_, _<_};
 ghost use lib.ListN.{length};
-ghost use Rattle.table.specs.Layout.{wordAt, rowsAt, targetsAt, marksAt, statesOf, edgesOf, rowStart as rowStartOf, target as targetOf, mark as markOf};
+ghost use Rattle.table.specs.Layout.{wordAt, statesOf, rowStart as rowStartOf, target as targetOf, mark as markOf};
+ghost use Rattle.table.specs.Inside.{RowInside, TargetInside, MarkInside};
 ghost use Rattle.table.specs.BlockOf.{blockOf};
 ghost use Rattle.table.specs.WellFormed.{WellFormed};
 use super::Table;
@@ -27,7 +28,7 @@ pub(crate) fn word(bytes: &[u8], at: usize) -> usize
 
 // Row start s.
 pub fn row_start(bytes: &[u8], s: usize) -> usize
-    requires { ⌜ rowsAt + 4 * s + 4 ≤ length (now bytes) ⌝ }
+    requires { ⌜ RowInside (now bytes) s ⌝ }
     ensures { λ r. ⌜ r ≡ rowStartOf (now (bytes .entry)) s ⌝ }
 {
     word(bytes, 28 + 4 * s)
@@ -35,8 +36,7 @@ pub fn row_start(bytes: &[u8], s: usize) -> usize
 
 // Target i.
 pub fn target(bytes: &[u8], t: Table, i: usize) -> usize
-    requires { ⌜ t .states ≡ statesOf (now bytes) ⌝ }
-    requires { ⌜ targetsAt (t .states) + 4 * i + 4 ≤ length (now bytes) ⌝ }
+    requires { ⌜ TargetInside (now bytes) t i ⌝ }
     ensures { λ r. ⌜ r ≡ targetOf (now (bytes .entry)) i ⌝ }
 {
     word(bytes, 28 + 4 * (t.states + 1) + 4 * i)
@@ -44,12 +44,35 @@ pub fn target(bytes: &[u8], t: Table, i: usize) -> usize
 
 // The marks of state s.
 pub fn mark(bytes: &[u8], t: Table, s: usize) -> u8
-    requires { ⌜ (t .states ≡ statesOf (now bytes)) × (t .edges ≡ edgesOf (now bytes)) ⌝ }
-    requires { ⌜ marksAt (t .states) (t .edges) + s < length (now bytes) ⌝ }
+    requires { ⌜ MarkInside (now bytes) t s ⌝ }
     ensures { λ r. ⌜ r ≡ markOf (now (bytes .entry)) s ⌝ }
 {
     let at = 28 + 4 * (t.states + 1) + 4 * t.edges + s;
     bytes[at]
+}
+
+// The state s is a start: bit 0 of its marks.
+pub fn is_start(bytes: &[u8], t: Table, s: usize) -> bool
+    requires { ⌜ MarkInside (now bytes) t s ⌝ }
+    ensures { λ r. ⌜ r ≡ blockOf (now (bytes .entry)) .start s ⌝ }
+{
+    mark(bytes, t, s) % 2 == 1
+}
+
+// The state s has the goal: bit 1 of its marks.
+pub fn has_goal(bytes: &[u8], t: Table, s: usize) -> bool
+    requires { ⌜ MarkInside (now bytes) t s ⌝ }
+    ensures { λ r. ⌜ r ≡ blockOf (now (bytes .entry)) .goal s ⌝ }
+{
+    mark(bytes, t, s) / 2 % 2 == 1
+}
+
+// The fairness sets that hold the state s, a bit each: the marks from bit 2 on.
+pub fn fair(bytes: &[u8], t: Table, s: usize) -> usize
+    requires { ⌜ MarkInside (now bytes) t s ⌝ }
+    ensures { λ r. ⌜ r ≡ blockOf (now (bytes .entry)) .fair s ⌝ }
+{
+    wide(mark(bytes, t, s) / 4)
 }
 
 // s to s2 is an edge: s2 is a target in the row of s.

@@ -14,7 +14,7 @@ use Rattle.table.specs.Lines.{Past1, Past2, Past3, Past4, Past5, Past6, 
 use Rattle.table.specs.Rows.{row-starts-right}
 use Rattle.table.specs.declared.Table.{Table}
 use Rattle.table.specs.declared.Opened.the-variants.{Accepted}
-use Rattle.table.proofs.Scan.{found-at, found-none}
+use Rattle.table.proofs.Answers.{found-at, found-none}
 use Rattle.table.proofs.open.Statement.{statement}
 use Rattle.table.proofs.open.Tie as tie
 use Rattle.table.proofs.open.Reads as reads

@@ -9,7 +9,8 @@ use denote.Ref.{now}
 use borrow.Author.Tests.{eq-eqb, ne-eqb}
 use Rattle.table.specs.Layout.{statesOf, rowStart}
 use Rattle.table.specs.Open.{rowEmpty}
-use Rattle.table.proofs.Scan.{Scanned, scan-begins, scan-goes-on, scan-finds, scan-ends}
+use Rattle.table.specs.Scan.{Scanned, scan-begins, scan-goes-on}
+use Rattle.table.proofs.Answers.{scan-finds, scan-ends}
 use Rattle.table.proofs.faults.empty_row.Statement.{statement}
 use Rattle.table.proofs.faults.empty_row.Tie as tie
 use Rattle.table.proofs.faults.empty_row.Reads as reads

@@ -12,7 +12,8 @@ use denote.Ref.{now}
 use Rattle.table.specs.Layout.{statesOf, target}
 use Rattle.table.specs.Open.{opensRow, targetWrong}
 use Rattle.table.specs.Targets.{TargetRight, target-says, target-wrong}
-use Rattle.table.proofs.Scan.{Scanned, scan-begins, scan-goes-on, scan-finds, scan-ends}
+use Rattle.table.specs.Scan.{Scanned, scan-begins, scan-goes-on}
+use Rattle.table.proofs.Answers.{scan-finds, scan-ends}
 use Rattle.table.proofs.faults.wrong_in_row.Statement.{statement}
 use Rattle.table.proofs.faults.wrong_in_row.Tie as tie
 use Rattle.table.proofs.faults.wrong_in_row.Reads as reads

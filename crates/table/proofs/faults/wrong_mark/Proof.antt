@@ -8,7 +8,8 @@ use denote.Ref.{now}
 use borrow.Author.Tests.{le-leb, lt-leb}
 use Rattle.table.specs.Layout.{statesOf, setsOf, mark}
 use Rattle.table.specs.Open.{markWrong}
-use Rattle.table.proofs.Scan.{Scanned, scan-begins, scan-goes-on, scan-finds, scan-ends}
+use Rattle.table.specs.Scan.{Scanned, scan-begins, scan-goes-on}
+use Rattle.table.proofs.Answers.{scan-finds, scan-ends}
 use Rattle.table.proofs.faults.wrong_mark.Statement.{statement}
 use Rattle.table.proofs.faults.wrong_mark.Tie as tie
 use Rattle.table.proofs.faults.wrong_mark.Reads as reads

@@ -10,7 +10,8 @@ use denote.Ref.{now}
 use Rattle.table.specs.Layout.{statesOf, edgesOf, rowStart}
 use Rattle.table.specs.Open.{rowStartWrong}
 use Rattle.table.specs.Rows.{StartRight, start-says, start-wrong}
-use Rattle.table.proofs.Scan.{Scanned, scan-begins, scan-on, scan-finds, scan-ends}
+use Rattle.table.specs.Scan.{Scanned, scan-begins, scan-on}
+use Rattle.table.proofs.Answers.{scan-finds, scan-ends}
 use Rattle.table.proofs.faults.wrong_row_start.Statement.{statement}
 use Rattle.table.proofs.faults.wrong_row_start.Tie as tie
 use Rattle.table.proofs.faults.wrong_row_start.Reads as reads

@@ -11,7 +11,8 @@ use Rattle.table.specs.Layout.{statesOf, edgesOf, rowStart}
 use Rattle.table.specs.Open.{targetWrong}
 use Rattle.table.specs.Rows.{RowsRight, row-starts-to}
 use Rattle.table.specs.Targets.{first-opens}
-use Rattle.table.proofs.Scan.{Scanned, scan-begins, scan-ends, part-finds, part-ends}
+use Rattle.table.specs.Scan.{Scanned, scan-begins}
+use Rattle.table.proofs.Answers.{scan-ends, part-finds, part-ends}
 use Rattle.table.proofs.faults.wrong_target.Statement.{statement}
 use Rattle.table.proofs.faults.wrong_target.Tie as tie
 use Rattle.table.proofs.faults.wrong_target.Reads as reads

@@ -14,7 +14,7 @@ use Rattle.table.specs.BlockOf.{blockOf}
 use Rattle.table.specs.Facts.{fails-if-not-passes}
 use Rattle.table.specs.Rows.{row-starts-to}
 use Rattle.table.specs.Sound.{edge-is}
-use Rattle.table.proofs.Scan.{Scanned, scan-begins, scan-goes-on}
+use Rattle.table.specs.Scan.{Scanned, scan-begins, scan-goes-on}
 use Rattle.table.proofs.read.has_edge.Statement.{statement}
 use Rattle.table.proofs.read.has_edge.Tie as tie
 use Rattle.table.proofs.read.has_edge.Reads as reads
@@ -54,7 +54,10 @@ target-requires c κs =
     let a = c .before .before .before .before .before .args in
     let b = now (a .bytes) in
     let w = c .before .before .before .before .before .pre .0 in
-    (omega arith, omega (arith, c .before .loop .inv .to, row-starts-to b (w .rows) (suc (a .s)) (omega arith), ap (rowStart b) (add-one (a .s))))
+    record {
+      states-are = omega arith;
+      inside = omega (arith, c .before .loop .inv .to, row-starts-to b (w .rows) (suc (a .s)) (omega arith), ap (rowStart b) (add-one (a .s)));
+    }
 
 returns : tie.Need-returns Inv-loop μ-loop
 returns c =

@@ -34,8 +34,8 @@ returns : tie.Need-returns
 unfolding mark
 returns c =
     let a = c .before .before .before .args in
-    let p = c .before .before .before .pre .0 in
-    ap₂ (λ (n e : ℕ). byteAt (now (a .bytes)) (marksAt n e + a .s)) (p .0) (p .1)
+    let p = c .before .before .before .pre in
+    ap₂ (λ (n e : ℕ). byteAt (now (a .bytes)) (marksAt n e + a .s)) (p .states-are) (p .edges-are)
 
 pub mark-spec : {M : Type 1} → statement M
 mark-spec =
