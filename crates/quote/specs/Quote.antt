@@ -1,7 +1,8 @@
--- What quoting a table answers. Document 01, "Quote sheet". Definitions, and one law. Assumes nothing.
+-- What quoting a table answers. Document 01, "Quote sheet". Definitions, then two laws. Assumes nothing.
 use mathlib.Core.Path.{_≡_}
 use mathlib.Core.List.{List, [], _∷_}
 use Prim.Native.Nat.{ℕ}
+use Rattle.order.specs.Settled.{settled}
 use Rattle.recorder.specs.Slots.{slotCount}
 use Rattle.table.specs.Open.{openOf}
 use Rattle.table.specs.BlockOf.{blockOf}
@@ -43,3 +44,7 @@ quoteOf b = record { answer = openOf b; sheet = sheetFor b (openOf b) }
 pub quote-is : (b : List ℕ) (o : Opened) → o ≡ openOf b → (s : Sheet) → s ≡ sheetFor b o → record { answer = o; sheet = s } ≡ quoteOf b
 unfolding quoteOf
 quote-is b o e s q = cc
+
+-- what `quote` says settles its answer
+pub quote-settled : (b : List ℕ) (x y : Quoted) → x ≡ quoteOf b → y ≡ quoteOf b → x ≡ y
+quote-settled b x y p q = settled p q

@@ -8,6 +8,7 @@ use mathlib.Core.Option.{Option, none, some, Option·some-ne-none}
 use Prim.Native.Nat.{ℕ, suc, _+_, _≤_, _<_, zero-le}
 use native.Mathlib.Omega.{arith}
 use lib.ListN.{length}
+use Rattle.order.specs.Settled.{settled}
 use Rattle.recorder.specs.Block.{HasBit}
 use Rattle.table.specs.First.{firstIn, first-none}
 use Rattle.table.specs.Layout.{kindOf, statesOf, edgesOf, setsOf, rowsOffset, targetsOffset, marksOffset, rowsAt, targetsAt, marksAt, lengthOf, tableOf, rowStart, target, mark}
@@ -19,6 +20,7 @@ use Rattle.table.specs.Rows.{RowsRight, row-starts-right}
 use Rattle.table.specs.Targets.{targets-right}
 use Rattle.table.specs.declared.Table.{Table}
 use Rattle.table.specs.declared.refusal.Refusal.{Refusal}
+use Rattle.table.specs.declared.Opened.{Opened}
 use Rattle.table.specs.declared.Opened.the-variants.{Accepted}
 
 pub record WellFormed (b : List ℕ) : Type 0 where
@@ -115,3 +117,7 @@ laid b t e =
       sets-to = omega arith;
       size = omega arith;
     }
+
+-- what `open` says settles its answer
+pub open-settled : (b : List ℕ) (x y : Opened) → x ≡ openOf b → y ≡ openOf b → x ≡ y
+open-settled b x y p q = settled p q
