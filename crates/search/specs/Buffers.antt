@@ -1,0 +1,35 @@
+-- A lent buffer whose first k words are set to 0, and the rest unchanged. Document 01, "Refusal list": "After an accepted search the first 2S
+-- workspace words are zero and the rest unchanged". The definition and its laws, then a law of a buffer that is written downwards.
+-- Assumes nothing.
+use mathlib.Core.Path.{_≡_, ap, _∙_}
+use mathlib.Core.List.{List, _∷_, _++_}
+use Prim.Native.Nat.{ℕ, zero, suc, _-_, _≤_, _<_}
+use native.Mathlib.Omega.{arith}
+use lib.ListN.{length, getD, set, take, drop, replicate, length-append, length-drop, length-replicate, getD-replicate, List·getD-append}
+use lib.Seq.{drop-at, take-suc, append-snoc, set-at, length-take-le}
+
+abbrev pub cleared : ℕ → List ℕ → List ℕ
+cleared k w = replicate k 0 ++ drop k w
+
+-- the length stays
+pub length-cleared : (k : ℕ) (w : List ℕ) → k ≤ length w → length (cleared k w) ≡ length w
+length-cleared k w h = simp (length-append, length-replicate, length-drop) (omega arith)
+
+-- the first k words are 0
+pub cleared-at : (k : ℕ) (w : List ℕ) (i : ℕ) → i < k → getD (cleared k w) i 0 ≡ 0
+cleared-at k w i h = List·getD-append (replicate k 0) (drop k w) 0 i (simp length-replicate h) ∙ getD-replicate k i 0 0 h
+
+-- the rest is unchanged
+pub cleared-rest : (k : ℕ) (w : List ℕ) → drop k (cleared k w) ≡ drop k w
+cleared-rest k w = drop-at (replicate k 0) (drop k w) k (length-replicate k 0)
+
+-- what was written into the first k words leaves no trace
+pub cleared-again : (k : ℕ) (w w′ : List ℕ) → drop k w′ ≡ drop k w → cleared k w′ ≡ cleared k w
+cleared-again k w w′ e = ap (λ (rest : List ℕ). replicate k 0 ++ rest) e
+
+-- a buffer that is written downwards: from left on it holds t, and the next word goes before that
+pub write-down : (r t : List ℕ) (left a : ℕ) → 0 < left → left ≤ length r → set (take left r ++ t) (left - 1) a ≡ take (left - 1) r ++ a ∷ t
+write-down r t zero a p h = absurd (omega arith)
+write-down r t (suc j) a p h =
+    let e : suc j - 1 ≡ j = omega arith in
+    rw (e, take-suc r j 0 h, append-snoc (take j r) (getD r j 0) t) (set-at (take j r) (getD r j 0) t a j (length-take-le j r (omega arith)))

@@ -1,0 +1,13 @@
+pub mod Workspace
+pub mod Meet
+pub mod Row
+pub mod Floor
+pub mod Scan
+pub mod Follow
+pub mod Starts
+pub mod Buffers
+pub mod Report
+pub mod Climb
+pub mod Searched
+pub mod Find
+pub mod Laws
