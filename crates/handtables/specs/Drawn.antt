@@ -1,8 +1,8 @@
 -- A table by its description, and its bytes. Document 01, "The table file" (the layout) and "Tables by hand" (the descriptions).
 -- Definitions only. Assumes nothing.
-use mathlib.Core.Bool.{Bool, true, false, cond, _||_}
+use mathlib.Core.Bool.{cond}
 use mathlib.Core.List.{List, [], _∷_, _++_}
-use Prim.Native.Nat.{ℕ, zero, suc, _+_, _*_, _/_, _%_}
+use Prim.Native.Nat.{ℕ, suc, _+_, _*_, _/_, _%_}
 use lib.Dec.{eqb}
 use lib.ListN.{length}
 use Rattle.table.specs.Layout.{rowsAt, targetsAt, marksAt}

@@ -1,6 +1,6 @@
 -- A row of document 01, "Tables by hand", and what it says that a row holds. Definitions only. Assumes nothing.
 use mathlib.Core.Path.{_≡_}
-use mathlib.Core.List.{List, [], _∷_}
+use mathlib.Core.List.{List}
 use Prim.Native.Nat.{ℕ, suc}
 use lib.ListN.{length}
 use Rattle.order.specs.Certificate.{Item}

@@ -1,13 +1,13 @@
 -- One turn of a breadth-first search: the index `head` is next, and its edges are followed in the order of their labels. `Turning` says where a
 -- turn stands: what leads from head with a label below L is dealt with. One law for each way a turn goes on or ends. Assumes nothing.
-use mathlib.Core.Path.{_≡_, refl, sym, ap, _∙_}
+use mathlib.Core.Path.{_≡_, refl, ap}
 use mathlib.Core.Logic.{_⊎_, inl, inr}
-use Prim.Native.Nat.{ℕ, zero, suc, _≤_, _<_}
+use Prim.Native.Nat.{ℕ, suc, _≤_, _<_}
 use native.Mathlib.Nat.{eq-or-lt-of-le, le-of-suc-le-suc}
 use native.Mathlib.Decide.{decLt}
 use native.Mathlib.Omega.{arith}
 use Rattle.order.specs.Graph.{Graph, Determined, Safe, LeastBad}
-use Rattle.order.specs.Log.{Queue, Queued, Before, by-origin, by-label, Entry, Log, path}
+use Rattle.order.specs.Log.{Queue, Queued, Before, by-origin, by-label, Log, path}
 use Rattle.order.specs.Loop.{Agree, push, advance, queued}
 use Rattle.order.specs.Search.{none, found}
 use Rattle.order.specs.Word.{_▸_}

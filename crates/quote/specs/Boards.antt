@@ -2,10 +2,10 @@
 -- none. Definitions only. Assumes nothing.
 use mathlib.Core.Bool.{Bool, _&&_}
 use mathlib.Core.List.{List, [], _∷_}
-use mathlib.Core.Option.{Option, Option·getD}
+use mathlib.Core.Option.{Option·getD}
 use Prim.Native.Nat.{ℕ}
 use lib.Dec.{leb}
-use lib.ListN.{length, getD}
+use lib.ListN.{getD}
 use Rattle.table.specs.First.{firstIn}
 use Rattle.quote.specs.declared.boards.Board.{Board}
 

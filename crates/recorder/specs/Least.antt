@@ -9,14 +9,14 @@ use native.Mathlib.Decide.{decLt}
 use native.Mathlib.Omega.{arith}
 use lib.ListN.{length}
 use Rattle.order.specs.Word.{Word, _≺_, shorter, sooner, _⊑_, less, same, ⊏-irrefl, ⊏-⊑-trans, ≺-compare, ⊑-antisym, ⊑-length}
-use Rattle.order.specs.Graph.{Run, word as spelling, Spells, Safe, LeastBad}
+use Rattle.order.specs.Graph.{Safe, LeastBad}
 use Rattle.recorder.specs.Block.{Block, Sound}
 use Rattle.recorder.specs.Lasso.{Lasso, tieOf, Least, None, LeastLasso, NoLasso}
 use Rattle.recorder.specs.Flag.{Flag, liveFlag, LassoBy}
 use Rattle.recorder.specs.Live.{lasso-live}
 use Rattle.recorder.specs.Ties.{length-tie, tie-determines}
 use Rattle.recorder.specs.SlotGraph.{slotGraph}
-use Rattle.recorder.specs.LassoWords.{LassoOfWord, BadOfWord, bad-of-lasso, lasso-of-bad}
+use Rattle.recorder.specs.LassoWords.{bad-of-lasso, lasso-of-bad}
 
 -- ---- shortest, then first in the dictionary: that is first in shortlex
 module _ (L : List ℕ → ℕ → Type 0) where

@@ -7,7 +7,6 @@ use Prim.Native.Nat.{ℕ, _≤_, _<_, _^_}
 use native.Mathlib.Omega.{arith}
 use lib.Pow.{pow-pos}
 use lib.Bits.{or-lt, bitOr}
-use borrow.Author.Tests.{eq-eqb}
 use Rattle.order.specs.Graph.{Graph, Determined, determined}
 use Rattle.recorder.specs.Block.{Block, Sound}
 use Rattle.recorder.specs.Flag.{Flag}

@@ -1,16 +1,16 @@
 -- The runs of the slot graph are the runs of records, with the same words. Assumes nothing.
 use mathlib.Core.Path.{_≡_, refl, sym, ap, ap₂, subst, subst₂, _∙_}
-use mathlib.Core.Bool.{Bool, true, false}
+use mathlib.Core.Bool.{true}
 use mathlib.Core.Logic.{_⊎_, inl, inr}
-use mathlib.Core.List.{List, [], _∷_, _++_, map}
+use mathlib.Core.List.{List, [], _∷_, _++_}
 use Prim.Native.Nat.{ℕ, zero, suc, _-_, _<_}
 use native.Mathlib.Nat.{le-of-suc-le-suc, eq-or-lt-of-le}
 use native.Mathlib.Numerals.{add-one}
 use native.Mathlib.Omega.{arith}
-use lib.ListN.{length, getD, take, length-append, List·getD-append}
+use lib.ListN.{length, take, length-append, List·getD-append}
 use lib.Seq.{take-suc, take-length, getD-append-seam, getD-at}
 use Rattle.order.specs.Word.{Word, _▸_}
-use Rattle.order.specs.Graph.{Graph, Run, begin, step, word as spelling, Spells}
+use Rattle.order.specs.Graph.{Run, begin, step, word as spelling, Spells}
 use Rattle.recorder.specs.Block.{Block, Sound}
 use Rattle.recorder.specs.Flag.{Flag}
 use Rattle.recorder.specs.Recorder.{RecordRun, StepTo, zeros, recordOf, startOf, stepOf, number}

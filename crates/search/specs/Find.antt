@@ -1,17 +1,15 @@
 -- The search of an accepted table, with buffers that are long enough: what its parts give together. Document 01, "Lasso and choice". A scan that
 -- stopped has the least lasso's numbers on its path; one that met no bad slot shows that there is no lasso. Assumes nothing.
 use mathlib.Core.Path.{_≡_, refl, sym, ap, _∙_}
-use mathlib.Core.Bool.{Bool, true, false}
-use mathlib.Core.Logic.{_⊎_}
 use mathlib.Core.List.{List, _++_}
-use Prim.Native.Nat.{ℕ, suc, _-_, _*_, _≤_, _<_}
+use Prim.Native.Nat.{ℕ, _-_, _*_, _≤_}
 use native.Mathlib.Omega.{arith}
 use lib.ListN.{length, drop}
 use Rattle.order.specs.Graph.{Safe}
 use Rattle.order.specs.Turn.{search-stops}
 use Rattle.order.specs.Word.{Word}
 use Rattle.recorder.specs.Flag.{liveFlag}
-use Rattle.recorder.specs.Lasso.{LeastLasso, NoLasso}
+use Rattle.recorder.specs.Lasso.{LeastLasso}
 use Rattle.recorder.specs.Least.{least-of-block}
 use Rattle.recorder.specs.SlotGraph.{slots-determined}
 use Rattle.table.specs.Layout.{statesOf, setsOf}
@@ -20,10 +18,9 @@ use Rattle.table.specs.WellFormed.{WellFormed}
 use Rattle.table.specs.LaidOut.{LaidOut}
 use Rattle.table.specs.Sound.{sound}
 use Rattle.table.specs.declared.Table.{Table}
+use Rattle.table.specs.Recording.{slotsOf, graphOf, block-states, block-sets}
 use Rattle.search.specs.Buffers.{cleared, length-cleared, cleared-at, cleared-rest, cleared-again}
-use Rattle.search.specs.Climb.{Climbs, pathBy, labelOf, kept-climbs, slot-path, path-to}
-use Rattle.search.specs.Floor.{slotsOf, graphOf, block-states, block-sets}
-use Rattle.search.specs.Meet.{SameRest}
+use Rattle.search.specs.Climb.{Climbs, pathBy, labelOf, kept-climbs, slot-path}
 use Rattle.search.specs.Report.{halves, odds, Reports, lasso-reported}
 use Rattle.search.specs.Scan.{ScanAsks, Stopped, ScanSays}
 use Rattle.search.specs.Searched.{AnswerSays}

@@ -1,52 +1,31 @@
 -- The labels of what a slot leads to, along the row of its state. A turn that has come to target i has dealt with all labels below `floorAt`: none
 -- at the row's first target, else those of the target before. One law for each step of the row. Assumes nothing.
 use mathlib.Core.Path.{_≡_, refl, sym, ap, _∙_}
-use mathlib.Core.Bool.{Bool, true, false, cond, _&&_}
+use mathlib.Core.Bool.{Bool, true, false, cond}
 use mathlib.Core.List.{List}
 use Prim.Native.Nat.{ℕ, suc, _+_, _-_, _*_, _≤_, _<_}
 use native.Mathlib.Decide.{decLt}
 use native.Mathlib.Omega.{arith}
 use lib.Dec.{eqb}
 use borrow.Author.Tests.{eq-eqb, ne-eqb}
-use Rattle.order.specs.Graph.{Graph}
 use Rattle.order.specs.Log.{Queue}
 use Rattle.order.specs.Turn.{Between, Turning, turn-begins, turn-skips, turn-ends}
-use Rattle.recorder.specs.Block.{Block, Sound}
+use Rattle.recorder.specs.Block.{Block}
 use Rattle.recorder.specs.Flag.{liveFlag}
-use Rattle.recorder.specs.Recorder.{stepOf, saveOf, unsaved, number}
-use Rattle.recorder.specs.Slots.{slotCount}
+use Rattle.recorder.specs.Recorder.{saveOf, unsaved, number}
 use Rattle.recorder.specs.Matching.{state-saved}
-use Rattle.recorder.specs.SlotGraph.{slotGraph, at, slot, at-next}
+use Rattle.recorder.specs.SlotGraph.{at, at-next}
 use Rattle.recorder.specs.declared.Record.{Record}
-use Rattle.table.specs.Layout.{statesOf, setsOf, rowStart, target}
+use Rattle.table.specs.Layout.{statesOf, target}
 use Rattle.table.specs.BlockOf.{blockOf}
 use Rattle.table.specs.WellFormed.{WellFormed}
 use Rattle.table.specs.Sound.{sound}
-use Rattle.search.specs.Row.{row-some, row-gap, row-last, row-edge}
-
--- how many slots a table has
-abbrev pub slotsOf : List ℕ → ℕ
-slotsOf b = slotCount (statesOf b) (setsOf b)
-
--- the slot graph of a table
-abbrev pub graphOf : List ℕ → Graph
-graphOf b = slotGraph liveFlag (blockOf b)
-
--- what slot x leads to along an edge to s′, with a save wish
-abbrev pub nextOf : List ℕ → ℕ → ℕ → Bool → ℕ
-nextOf b x s′ wish = slot (blockOf b) (stepOf liveFlag (blockOf b) (at (blockOf b) x) s′ wish)
+use Rattle.table.specs.Row.{row-some, row-gap, row-last, row-edge}
+use Rattle.table.specs.Recording.{graphOf, nextOf, block-states, stateOf, fromOf, toOf, Unsaved}
 
 -- all labels below this one are dealt with when a turn has come to index i of the row that starts at `from`
 unfoldable pub floorAt : List ℕ → ℕ → ℕ → ℕ
 floorAt b from i = cond (eqb i from) 0 (2 * target b (i - 1) + 2)
-
-pub block-states : (b : List ℕ) → blockOf b .n ≡ statesOf b
-unfolding blockOf
-block-states b = refl
-
-pub block-sets : (b : List ℕ) → blockOf b .m ≡ setsOf b
-unfolding blockOf
-block-sets b = refl
 
 floor-first : (b : List ℕ) (from : ℕ) → floorAt b from from ≡ 0
 unfolding floorAt
@@ -101,20 +80,6 @@ module _ (b : List ℕ) (w : WellFormed b) (x : ℕ) where
       go false = rw u (omega arith)
 
 -- ---- the steps of a row, in the turn of head, whose slot's state owns the row
-
--- the state of slot x, and where its row starts and ends
-abbrev pub stateOf : List ℕ → ℕ → ℕ
-stateOf b x = at (blockOf b) x .s
-
-abbrev pub fromOf : List ℕ → ℕ → ℕ
-fromOf b x = rowStart b (stateOf b x)
-
-abbrev pub toOf : List ℕ → ℕ → ℕ
-toOf b x = rowStart b (suc (stateOf b x))
-
--- nothing is saved in slot x
-abbrev pub Unsaved : List ℕ → ℕ → Type 0
-Unsaved b x = at (blockOf b) x .t ≡ statesOf b
 
 -- the turn has dealt with all labels below L
 abbrev pub Upto : List ℕ → Queue → ℕ → ℕ → ℕ → Type 0

@@ -1,32 +1,26 @@
 -- One target of a row: `Turned` says where the turn of head stands at index i of its row, and the laws say what meeting the slots along target i
 -- asks and gives. Assumes nothing.
-use mathlib.Core.Path.{_≡_, refl, sym, ap, subst, _∙_}
-use mathlib.Core.Bool.{Bool, true, false, _&&_}
+use mathlib.Core.Path.{_≡_, refl, sym, ap, _∙_}
+use mathlib.Core.Bool.{Bool, true, false}
 use mathlib.Core.List.{List}
-use Prim.Native.Nat.{ℕ, suc, _+_, _-_, _*_, _^_, _≤_, _<_}
-use native.Mathlib.Decide.{ℕ-discrete}
+use Prim.Native.Nat.{ℕ, suc, _+_, _≤_, _<_}
 use native.Mathlib.Omega.{arith}
 use lib.Dec.{eqb}
-use borrow.Author.Tests.{eq-eqb, ne-eqb, eqb-true, eqb-false}
-use Rattle.order.specs.Turn.{Between, Turning}
-use Rattle.recorder.specs.Block.{Block, Sound}
+use borrow.Author.Tests.{eqb-true, eqb-false}
+use Rattle.order.specs.Turn.{Between}
 use Rattle.recorder.specs.Flag.{liveFlag}
 use Rattle.recorder.specs.Recorder.{stepOf, badOf}
-use Rattle.recorder.specs.Slots.{slotOf, InRange, saved-in, bits-in, record-in, slot-below}
-use Rattle.recorder.specs.Fits.{count-small}
 use Rattle.recorder.specs.Bad.{bad-says}
-use Rattle.recorder.specs.SlotGraph.{at, step-in-range, at-next, edges-apart}
-use Rattle.recorder.specs.declared.Record.{Record}
-use Rattle.table.specs.Layout.{statesOf, setsOf, rowStart, target}
+use Rattle.recorder.specs.SlotGraph.{at, at-next, edges-apart}
+use Rattle.table.specs.Layout.{statesOf, target}
 use Rattle.table.specs.BlockOf.{blockOf}
 use Rattle.table.specs.WellFormed.{WellFormed}
-use Rattle.table.specs.LaidOut.{LaidOut}
 use Rattle.table.specs.Sound.{sound}
-use Rattle.table.specs.declared.Table.{Table}
 use Rattle.search.specs.Workspace.{slotAt, queueOf, Kept, kept-le}
 use Rattle.search.specs.Meet.{MeetAsks, MeetSays, MeetIfSays, Met, meets, meets-if, met-trans, meet-turns}
-use Rattle.search.specs.Row.{row-some, row-edge}
-use Rattle.search.specs.Floor.{slotsOf, block-states, graphOf, nextOf, floorAt, stateOf, fromOf, toOf, Unsaved, Upto, row-begins, row-next, row-other, row-done, row-done-saved, row-ends}
+use Rattle.table.specs.Row.{row-some, row-edge}
+use Rattle.table.specs.Recording.{slotsOf, graphOf, nextOf, block-states, stateOf, fromOf, toOf, Unsaved, slots-few, state-in, next-in}
+use Rattle.search.specs.Floor.{floorAt, Upto, row-begins, row-next, row-other, row-done, row-done-saved, row-ends}
 use Rattle.search.specs.Scan.{Stopped}
 
 -- In the turn of head, whose slot is x, at index i of the row of x's state.
@@ -37,34 +31,6 @@ pub record Turned (b : List ℕ) (w : List ℕ) (head tail x i : ℕ) : Type 0 w
   pub to : i ≤ toOf b x
   -- all labels of the row's targets before i are dealt with
   pub upto : Upto b (queueOf (slotsOf b) w) head tail (floorAt b (fromOf b x) i)
-
--- slots are few
-pub slots-few : (b : List ℕ) → WellFormed b → slotsOf b < 4294967295
-slots-few b f = omega (arith, count-small (statesOf b) (setsOf b) (f .states-to) (omega (arith, f .sets-to)))
-
--- a slot's state is a state
-pub state-in : (b : List ℕ) (x : ℕ) → x < slotsOf b → stateOf b x < statesOf b
-unfolding blockOf
-state-in b x h = record-in (statesOf b) (setsOf b) x h .s-in
-
--- what a slot leads to is in range, and is a slot
-pub next-in-range : (b : List ℕ) (f : WellFormed b) (x s′ : ℕ) (wish : Bool) → blockOf b .edge (stateOf b x) s′ ≡ true
-    → InRange (statesOf b) (setsOf b) (stepOf liveFlag (blockOf b) (at (blockOf b) x) s′ wish)
-unfolding blockOf
-next-in-range b f x s′ wish e = step-in-range liveFlag (blockOf b) (sound b f) (at (blockOf b) x) s′ wish (saved-in _ _ x) (bits-in _ _ x) e
-
-next-in : (b : List ℕ) (f : WellFormed b) (x s′ : ℕ) (wish : Bool) → blockOf b .edge (stateOf b x) s′ ≡ true → nextOf b x s′ wish < slotsOf b
-unfolding blockOf
-next-in b f x s′ wish e = slot-below (statesOf b) (setsOf b) _ (next-in-range b f x s′ wish e)
-
--- the same by the table that was opened: the record r that a step gave has a slot, and that is the next one
-module _ (b : List ℕ) (t : Table) (l : LaidOut b t) (x s′ : ℕ) (wish : Bool) (r : Record) (e : r ≡ stepOf liveFlag (blockOf b) (at (blockOf b) x) s′ wish) where
-  pub step-range : WellFormed b → blockOf b .edge (stateOf b x) s′ ≡ true → (t .states ≤ 64) × (t .sets ≤ 8) × InRange (t .states) (t .sets) r
-  step-range f d = (l .states-to, omega (arith, l .sets-to), rw (l .states-are, l .sets-are, e) (next-in-range b f x s′ wish d))
-
-  pub step-slot : (y : ℕ) → y ≡ slotOf (t .states) (t .sets) r → y ≡ nextOf b x s′ wish
-  unfolding blockOf
-  step-slot y d = d ∙ rw (l .states-are, l .sets-are, e)
 
 -- with nothing saved afterwards a slot is not bad
 plain-good : (b : List ℕ) (f : WellFormed b) (x s′ : ℕ) → blockOf b .edge (stateOf b x) s′ ≡ true → Unsaved b x → ¬ graphOf b .Bad (nextOf b x s′ false)

@@ -1,10 +1,9 @@
 -- Laws of a search: its answer line by line of the refusal list, and that its statement settles the answer and both buffers. Document 01, "Refusal
 -- list" and "Strength of the statements". Assumes nothing.
 use mathlib.Core.Path.{_≡_, refl, sym, ap, ap₂, _∙_}
-use mathlib.Core.Bool.{Bool, true, false}
 use mathlib.Core.List.{List, _++_}
 use mathlib.Core.Option.{Option, none, some}
-use Prim.Native.Nat.{ℕ, suc, _*_, _≤_, _<_}
+use Prim.Native.Nat.{ℕ, _*_, _≤_, _<_}
 use native.Mathlib.Omega.{arith}
 use lib.ListN.{length, drop}
 use borrow.Author.Tests.{lt-ltb, le-ltb}
@@ -19,7 +18,7 @@ use Rattle.table.specs.declared.Opened.{Opened}
 use Rattle.table.specs.declared.Opened.the-variants.{Accepted, Refused as TableRefused}
 use Rattle.table.specs.declared.refusal.Refusal.{Refusal}
 use Rattle.table.specs.declared.refusal.Refusal.the-variants.{ShortWorkspace, ShortReport}
-use Rattle.search.specs.Floor.{slotsOf}
+use Rattle.table.specs.Recording.{slotsOf}
 use Rattle.search.specs.Find.{FindSays}
 use Rattle.search.specs.Searched.{searchLines, refusalOf, AnswerSays, SearchFor, SearchSays}
 use Rattle.search.specs.declared.Answer.{Answer}

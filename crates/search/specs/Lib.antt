@@ -1,9 +1,9 @@
 pub mod Workspace
 pub mod Meet
-pub mod Row
 pub mod Floor
 pub mod Scan
 pub mod Follow
+pub mod Scanning
 pub mod Starts
 pub mod Buffers
 pub mod Report

@@ -1,15 +1,15 @@
 -- What the scan of queue and row asks and says. Assumes nothing.
 use mathlib.Core.Path.{_≡_}
 use mathlib.Core.List.{List}
-use Prim.Native.Nat.{ℕ, _<_}
+use Prim.Native.Nat.{ℕ}
 use Rattle.order.specs.Graph.{Safe}
 use Rattle.order.specs.Turn.{Between, Turning}
 use Rattle.table.specs.WellFormed.{WellFormed}
 use Rattle.table.specs.LaidOut.{LaidOut}
 use Rattle.table.specs.declared.Table.{Table}
+use Rattle.table.specs.Recording.{slotsOf, graphOf}
 use Rattle.search.specs.Workspace.{slotAt, queueOf, Kept}
 use Rattle.search.specs.Meet.{SameRest}
-use Rattle.search.specs.Floor.{slotsOf, graphOf}
 use Rattle.search.specs.declared.scan.Seen.{Seen}
 use Rattle.search.specs.declared.scan.Seen.the-variants.{Bad, Clean}
 

@@ -14,8 +14,8 @@ use Rattle.table.specs.declared.Opened.{Opened}
 use Rattle.table.specs.declared.Opened.the-variants.{Accepted, Refused as TableRefused}
 use Rattle.table.specs.declared.refusal.Refusal.{Refusal}
 use Rattle.table.specs.declared.refusal.Refusal.the-variants.{ShortWorkspace, ShortReport}
+use Rattle.table.specs.Recording.{slotsOf}
 use Rattle.search.specs.Buffers.{cleared}
-use Rattle.search.specs.Floor.{slotsOf}
 use Rattle.search.specs.declared.Answer.{Answer}
 use Rattle.search.specs.declared.Answer.the-variants.{Lasso, Holds, Refused}
 

@@ -25,10 +25,9 @@ use Rattle.table.specs.WellFormed.{WellFormed}
 use Rattle.table.specs.LaidOut.{LaidOut}
 use Rattle.table.specs.Sound.{sound}
 use Rattle.table.specs.declared.Table.{Table}
+use Rattle.table.specs.Recording.{slotsOf, graphOf, block-states, slots-few}
 use Rattle.search.specs.Workspace.{originAt, slotAt, queueOf, Kept, kept-none, meeting, meeting-agrees, meeting-node, meeting-origin, meeting-keeps}
 use Rattle.search.specs.Meet.{MeetAsks, MeetIfSays, SameRest}
-use Rattle.search.specs.Floor.{slotsOf, block-states, graphOf}
-use Rattle.search.specs.Follow.{slots-few}
 
 -- an accepted table, and a workspace for its slots with none met
 pub record StartsAsk (b : List ℕ) (t : Table) (S : ℕ) (w : List ℕ) : Type 0 where

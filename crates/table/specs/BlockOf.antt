@@ -1,5 +1,5 @@
 -- The block that an accepted table is. Document 01, "The table file": rows, targets and marks. Definitions only. Assumes nothing.
-use mathlib.Core.Bool.{Bool, _&&_}
+use mathlib.Core.Bool.{_&&_}
 use mathlib.Core.List.{List}
 use mathlib.Core.Option.{Option}
 use Prim.Native.Nat.{ℕ, suc, _/_, _%_}

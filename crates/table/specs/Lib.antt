@@ -13,3 +13,5 @@ pub mod Rows
 pub mod Targets
 pub mod WellFormed
 pub mod Sound
+pub mod Row
+pub mod Recording

@@ -1,6 +1,6 @@
 -- `recorder::with_flag_and_bits` meets its contract: 1 shifted by m + 1 is 2^(m+1), and the bounds keep both products small.
 -- Assumes nothing.
-use Prim.Native.Nat.{ℕ, _+_, _*_, _^_, _≤_}
+use Prim.Native.Nat.{_+_, _≤_}
 use native.Mathlib.Nat.{mul-le-mul}
 use native.Mathlib.Omega.{arith}
 use lib.Pow.{pow-mono}

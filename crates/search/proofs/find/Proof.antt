@@ -1,20 +1,16 @@
 -- `search::find` meets its contract: the workspace is cleared, the starts are queued and scanned, and what the scan saw is the answer. The laws are
 -- those of specs/Find.antt. Assumes nothing.
 use mathlib.Core.Path.{_≡_, sym, ap₂, _∙_}
-use mathlib.Core.List.{List}
-use Prim.Native.Nat.{ℕ, _*_, _≤_, _<_}
+use Prim.Native.Nat.{ℕ, _*_, _≤_}
 use native.Mathlib.Omega.{arith}
 use lib.ListN.{length, drop}
 use denote.Ref.{now}
 use borrow.Author.Needs.{needs}
 use Rattle.recorder.specs.Slots.{slotCount}
-use Rattle.search.specs.Climb.{Climbs, pathBy, labelOf, path-to}
+use Rattle.table.specs.Recording.{slots-few}
+use Rattle.search.specs.Climb.{pathBy, labelOf, path-to}
 use Rattle.search.specs.Find.{FindAsks, Told, starts-asked, scan-asked, rest-stays, seen-as, stopped-climbs, stopped-tells, says-lasso, says-holds, clears}
-use Rattle.search.specs.Floor.{slotsOf}
-use Rattle.search.specs.Follow.{slots-few}
-use Rattle.search.specs.Report.{odds}
 use Rattle.search.specs.Scan.{Stopped}
-use Rattle.search.specs.Starts.{StartsAsk}
 use Rattle.search.proofs.find.Statement.{statement}
 use Rattle.search.proofs.find.Tie as tie
 

@@ -1,7 +1,7 @@
 -- `search::search` meets its contract: the table is opened and taken, the code goes down lines 9 and 10, and then it finds. Assumes nothing.
 use mathlib.Core.Path.{_≡_, sym, ap₂, _∙_}
 use mathlib.Core.List.{List}
-use Prim.Native.Nat.{ℕ, _*_, _≤_, _<_}
+use Prim.Native.Nat.{ℕ}
 use native.Mathlib.Omega.{arith}
 use denote.Ref.{now}
 use borrow.Author.Needs.{needs}
@@ -10,8 +10,7 @@ use Rattle.table.specs.Open.{openOf}
 use Rattle.table.specs.WellFormed.{well-formed, laid}
 use Rattle.table.specs.declared.Table.{Table}
 use Rattle.table.specs.declared.Opened.the-variants.{Accepted}
-use Rattle.search.specs.Floor.{slotsOf}
-use Rattle.search.specs.Follow.{slots-few}
+use Rattle.table.specs.Recording.{slotsOf, slots-few}
 use Rattle.search.specs.Laws.{table-refused, short-workspace, short-report, finds}
 use Rattle.search.proofs.search.Statement.{statement}
 use Rattle.search.proofs.search.Tie as tie

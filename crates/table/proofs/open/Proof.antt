@@ -17,15 +17,6 @@ use Rattle.table.specs.declared.Opened.the-variants.{Accepted}
 use Rattle.table.proofs.Answers.{found-at, found-none}
 use Rattle.table.proofs.open.Statement.{statement}
 use Rattle.table.proofs.open.Tie as tie
-use Rattle.table.proofs.open.Reads as reads
-use Rattle.table.proofs.open.Lts as lts
-use Rattle.table.proofs.faults.counts_fit.Reads as counts-fit-reads
-use Rattle.table.proofs.faults.empty_row.Reads as empty-row-reads
-use Rattle.table.proofs.faults.layout_fits.Reads as layout-fits-reads
-use Rattle.table.proofs.faults.wrong_mark.Reads as wrong-mark-reads
-use Rattle.table.proofs.faults.wrong_row_start.Reads as wrong-row-start-reads
-use Rattle.table.proofs.faults.wrong_target.Reads as wrong-target-reads
-use Rattle.table.proofs.read.word.Reads as word-reads
 
 -- ---- the places after lines 1 to 8, each from the one before, with the bytes there
 abbrev at1 : tie.Else2 → tie.Else1

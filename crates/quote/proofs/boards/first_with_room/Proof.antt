@@ -1,6 +1,6 @@
 -- `quote::boards::first_with_room` meets its contract: it scans the rows of the board table for one with room for both.
 -- Assumes nothing.
-use mathlib.Core.Path.{_≡_, refl, sym, ap, _∙_}
+use mathlib.Core.Path.{sym, ap}
 use mathlib.Core.Option.{Option, Option·getD}
 use Prim.Native.Nat.{ℕ, _-_}
 use native.Mathlib.Omega.{arith}
@@ -8,8 +8,6 @@ use Rattle.table.specs.Scan.{Scanned, scan-begins, scan-goes-on, scan-first, sc
 use Rattle.quote.specs.Boards.{boards, hasRoom, boardOf}
 use Rattle.quote.proofs.boards.first_with_room.Statement.{statement}
 use Rattle.quote.proofs.boards.first_with_room.Tie as tie
-use Rattle.quote.proofs.boards.first_with_room.Reads as reads
-use Rattle.quote.proofs.boards.first_with_room.Lts as lts
 
 -- no row before r has room
 abbrev Inv-loop : tie.InvT-loop

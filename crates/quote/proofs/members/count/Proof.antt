@@ -18,9 +18,6 @@ use Rattle.table.specs.Inside.{mark-inside}
 use Rattle.quote.specs.Members.{countBelow, membersOf}
 use Rattle.quote.proofs.members.count.Statement.{statement}
 use Rattle.quote.proofs.members.count.Tie as tie
-use Rattle.quote.proofs.members.count.Reads as reads
-use Rattle.quote.proofs.members.count.Lts as lts
-use Rattle.table.proofs.fair.Reads as fair-reads
 
 -- set i holds state s
 abbrev holds : Block → ℕ → ℕ → Bool

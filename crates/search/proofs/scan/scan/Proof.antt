@@ -1,65 +1,35 @@
 -- `search::scan::scan` meets its contract. Between two turns the log of the queue holds (`Waiting`); within a row the turn has dealt with the targets
 -- before i (`Within`). The laws of specs/Follow.antt say what each step of a row asks and gives. Assumes nothing.
-use mathlib.Core.Path.{_≡_, refl, sym, ap, ap₂, subst, _∙_}
+use mathlib.Core.Path.{_≡_, sym, ap, ap₂, _∙_}
 use mathlib.Core.Bool.{Bool, true, false, true≢false}
-use mathlib.Core.Logic.{_⊎_, inl, inr, ⊎-elim}
+use mathlib.Core.Logic.{_⊎_, ⊎-elim}
 use mathlib.Core.List.{List}
-use Prim.Native.Nat.{ℕ, suc, _+_, _-_, _*_, _≤_, _<_}
+use Prim.Native.Nat.{ℕ, suc, _+_, _-_, _<_}
 use native.Mathlib.Numerals.{add-one}
 use native.Mathlib.Omega.{arith}
 use lib.Dec.{eqb}
-use lib.ListN.{length, getD}
+use lib.ListN.{getD}
 use denote.Ref.{now}
-use Rattle.order.specs.Graph.{Safe}
-use Rattle.order.specs.Turn.{Between, search-ends}
 use Rattle.recorder.specs.Flag.{liveFlag}
 use Rattle.recorder.specs.Recorder.{stepOf, badOf}
-use Rattle.recorder.specs.Slots.{recordOfSlot, slotOf, InRange}
+use Rattle.recorder.specs.Slots.{recordOfSlot}
 use Rattle.recorder.specs.SlotGraph.{at, slot, at-next}
-use Rattle.recorder.specs.Says.{Leaves, StepSays, BadSays}
+use Rattle.recorder.specs.Says.{Leaves, StepSays}
 use Rattle.recorder.specs.declared.Record.{Record}
-use Rattle.table.specs.Layout.{statesOf, setsOf, rowStart, target}
+use Rattle.table.specs.Layout.{statesOf, rowStart, target}
 use Rattle.table.specs.BlockOf.{blockOf}
-use Rattle.table.specs.WellFormed.{WellFormed}
 use Rattle.table.specs.declared.Table.{Table}
-use Rattle.table.specs.LaidOut.{LaidOut}
 use Rattle.table.specs.Sound.{sound}
 use Rattle.table.specs.Inside.{row-inside, target-inside, mark-inside}
-use Rattle.search.specs.Workspace.{slotAt, queueOf, Kept, kept-le}
-use Rattle.search.specs.Meet.{MeetAsks, MeetSays, MeetIfSays, SameRest, rest-same, rest-trans, Met, meets, met-trans, says-as, asks-as, if-says-as}
-use Rattle.search.specs.Floor.{slotsOf, block-states, block-sets, graphOf, nextOf, stateOf, fromOf, toOf, Unsaved}
-use Rattle.search.specs.Scan.{ScanAsks, ScanSays, Stopped}
-use Rattle.search.specs.Row.{row-to}
-use Rattle.search.specs.Follow.{Turned, slots-few, state-in, step-range, step-slot, turned-begins, turned-ends, head-state, edge-there, first-asks, other-asks, turned-stops, turned-on}
+use Rattle.search.specs.Workspace.{slotAt, kept-le}
+use Rattle.search.specs.Meet.{MeetSays, MeetIfSays, rest-same, rest-trans, Met, says-as, asks-as, if-says-as}
+use Rattle.search.specs.Scan.{ScanAsks}
+use Rattle.table.specs.Row.{row-to}
+use Rattle.table.specs.Recording.{slotsOf, graphOf, nextOf, block-states, block-sets, stateOf, fromOf, toOf, slots-few, state-in, step-range, step-slot}
+use Rattle.search.specs.Follow.{Turned, turned-begins, turned-ends, edge-there, first-asks, other-asks, turned-stops, turned-on}
+use Rattle.search.specs.Scanning.{Waiting, Within, Left, ended, stopped, left-ended, left-stopped, left-same}
 use Rattle.search.proofs.scan.scan.Statement.{statement}
 use Rattle.search.proofs.scan.scan.Tie as tie
-use Rattle.search.proofs.scan.scan.Reads as reads
-use Rattle.search.proofs.scan.scan.Lts as lts
-use Rattle.recorder.proofs.Record.is_bad.Reads as is-bad-reads
-use Rattle.recorder.proofs.Record.of_slot.Reads as of-slot-reads
-use Rattle.recorder.proofs.Record.slot.Reads as slot-reads
-use Rattle.recorder.proofs.Record.step.Reads as step-reads
-use Rattle.search.proofs.meet.meet.Reads as meet-reads
-use Rattle.search.proofs.meet.meet_if.Reads as meet-if-reads
-use Rattle.table.proofs.fair.Reads as fair-reads
-use Rattle.table.proofs.has_goal.Reads as has-goal-reads
-use Rattle.table.proofs.row_start.Reads as row-start-reads
-use Rattle.table.proofs.target.Reads as target-reads
-
-record Waiting (b w₀ w : List ℕ) (bad head tail : ℕ) : Type 0 where
-  pub kept : Kept (slotsOf b) w tail
-  -- the words past the first 2S are as they came
-  pub same : SameRest (slotsOf b) w₀ w
-  -- the indices before head are done
-  pub between : Between (graphOf b) (queueOf (slotsOf b) w) head tail
-  -- no bad slot was met
-  pub none : bad ≡ slotsOf b
-
-record Within (b w₀ w : List ℕ) (bad head tail x i : ℕ) : Type 0 where
-  -- the targets before i are dealt with
-  pub turned : Turned b w head tail x i
-  pub same : SameRest (slotsOf b) w₀ w
-  pub none : bad ≡ slotsOf b
 
 abbrev Inv-loop : tie.InvT-loop
 Inv-loop bytes t work₀ slots queued n m bad₀ head tail₀ x r s saved goal fair to i₀ work bad tail i = Within bytes work₀ work bad head tail x i
@@ -85,6 +55,36 @@ Rowed = tie.After-row-start2 Inv-loop μ-loop Inv-queue μ-queue
 
 abbrev InRow : Type 0
 InRow = tie.In-loop Inv-loop μ-loop Inv-queue μ-queue
+
+abbrev Saving : Type 0
+Saving = tie.After-step Inv-loop μ-loop Inv-queue μ-queue
+
+abbrev SavingSlot : Type 0
+SavingSlot = tie.After-slot Inv-loop μ-loop Inv-queue μ-queue
+
+abbrev Tested : Type 0
+Tested = tie.After-is-bad Inv-loop μ-loop Inv-queue μ-queue
+
+abbrev Good : Type 0
+Good = tie.Else1 Inv-loop μ-loop Inv-queue μ-queue
+
+abbrev AtBad : Type 0
+AtBad = tie.Then1 Inv-loop μ-loop Inv-queue μ-queue
+
+abbrev MetOne : Type 0
+MetOne = tie.After-meet Inv-loop μ-loop Inv-queue μ-queue
+
+abbrev Plain : Type 0
+Plain = tie.After-step2 Inv-loop μ-loop Inv-queue μ-queue
+
+abbrev PlainSlot : Type 0
+PlainSlot = tie.After-slot2 Inv-loop μ-loop Inv-queue μ-queue
+
+abbrev MetBoth : Type 0
+MetBoth = tie.After-meet-if Inv-loop μ-loop Inv-queue μ-queue
+
+abbrev LeftQueue : Type 0
+LeftQueue = tie.Left-queue Inv-loop μ-loop Inv-queue μ-queue
 
 -- the bytes, the table, and the slot x that is taken from the queue
 abbrev bytes-at : InQueue → List ℕ
@@ -131,6 +131,16 @@ apart-of c = c .before .before .before .before
 abbrev queue-in : InRow → InQueue
 queue-in c = queue-of (apart-of (c .before .before))
 
+-- the bytes, the slot x and its index in the queue, in a row
+abbrev b-in : InRow → List ℕ
+b-in c = bytes-at (queue-in c)
+
+abbrev x-of : InRow → ℕ
+x-of c = x-at (queue-in c)
+
+abbrev head-of : InRow → ℕ
+head-of c = queue-in c .before .queue .head
+
 -- the row of x's state
 from-is : (c : Rowed) → c .row-start2 .result ≡ fromOf (bytes-at (queue-of (apart-of c))) (x-at (queue-of (apart-of c)))
 from-is c = c .row-start2 .ensures ∙ ap (λ (r : Record). rowStart (bytes-at (queue-of (apart-of c))) (r .s)) (r-is (apart-of c))
@@ -141,24 +151,31 @@ to-is c =
     ∙ ap (rowStart (bytes-at (queue-of (apart-of c)))) (add-one (apart-of c .of-slot .result .s))
     ∙ ap (λ (r : Record). rowStart (bytes-at (queue-of (apart-of c))) (suc (r .s))) (r-is (apart-of c))
 
-turned-at : (c : InRow) → Turned (bytes-at (queue-in c)) (c .before .loop .work) (queue-in c .before .queue .head) (c .before .loop .tail) (x-at (queue-in c)) (c .before .loop .i)
+turned-at : (c : InRow) → Turned (b-in c) (c .before .loop .work) (head-of c) (c .before .loop .tail) (x-of c) (c .before .loop .i)
 turned-at c = c .before .loop .inv .turned
 
-below-to : (c : InRow) → c .before .loop .i < toOf (bytes-at (queue-in c)) (x-at (queue-in c))
+below-to : (c : InRow) → c .before .loop .i < toOf (b-in c) (x-of c)
 below-to c = omega (arith, c .loop-test .taken, to-is (c .before .before))
 
 -- target i, which an edge leads to
 abbrev target-at : InRow → ℕ
-target-at c = target (bytes-at (queue-in c)) (c .before .loop .i)
+target-at c = target (b-in c) (c .before .loop .i)
 
-edge-at : (c : InRow) → blockOf (bytes-at (queue-in c)) .edge (stateOf (bytes-at (queue-in c)) (x-at (queue-in c))) (target-at c) ≡ true
+-- the rules' step from x to it, and the slot of that
+abbrev step-at : InRow → Bool → Record
+step-at c wish = stepOf liveFlag (blockOf (b-in c)) (at (blockOf (b-in c)) (x-of c)) (target-at c) wish
+
+abbrev next-at : InRow → Bool → ℕ
+next-at c wish = nextOf (b-in c) (x-of c) (target-at c) wish
+
+edge-at : (c : InRow) → blockOf (b-in c) .edge (stateOf (b-in c) (x-of c)) (target-at c) ≡ true
 edge-at c = edge-there _ (asks (queue-in c) .formed) _ _ _ _ _ (turned-at c) (below-to c)
 
 -- what the steps read of the block
-leaves : (c : InRow) → Leaves (blockOf (bytes-at (queue-in c))) (apart-of (c .before .before) .of-slot .result) (table-at (queue-in c) .states)
+leaves : (c : InRow) → Leaves (blockOf (b-in c)) (apart-of (c .before .before) .of-slot .result) (table-at (queue-in c) .states)
     (c .before .before .before .before .before .has-goal .result) (c .before .before .before .before .fair .result)
 leaves c = record {
-  states = block-states (bytes-at (queue-in c)) ∙ sym (asks (queue-in c) .laid .states-are);
+  states = block-states (b-in c) ∙ sym (asks (queue-in c) .laid .states-are);
   goal-is = sym (c .before .before .before .before .before .has-goal .ensures);
   fair-is = sym (c .before .before .before .before .fair .ensures);
 }
@@ -166,22 +183,22 @@ leaves c = record {
 -- a step of the code is the rules' step from x to target i
 step-is : (c : InRow) (wish : Bool) (next : ℕ) (r : Record) → next ≡ target-at c
     → StepSays (apart-of (c .before .before) .of-slot .result) (table-at (queue-in c) .states) (c .before .before .before .before .before .has-goal .result) (c .before .before .before .before .fair .result) next wish r
-    → r ≡ stepOf liveFlag (blockOf (bytes-at (queue-in c))) (at (blockOf (bytes-at (queue-in c))) (x-at (queue-in c))) (target-at c) wish
+    → r ≡ step-at c wish
 step-is c wish next r e says =
-    says _ (leaves c) ∙ ap₂ (λ (q : Record) (s : ℕ). stepOf liveFlag (blockOf (bytes-at (queue-in c))) q s wish) (r-is (apart-of (c .before .before))) e
+    says _ (leaves c) ∙ ap₂ (λ (q : Record) (s : ℕ). stepOf liveFlag (blockOf (b-in c)) q s wish) (r-is (apart-of (c .before .before))) e
 
 -- the steps that were made, and their slots
-saving-is : (c : tie.After-step Inv-loop μ-loop Inv-queue μ-queue) → c .step .result ≡ stepOf liveFlag (blockOf (bytes-at (queue-in (c .before .before)))) (at (blockOf (bytes-at (queue-in (c .before .before)))) (x-at (queue-in (c .before .before)))) (target-at (c .before .before)) true
+saving-is : (c : Saving) → c .step .result ≡ step-at (c .before .before) true
 saving-is c = step-is (c .before .before) true _ _ (c .before .target .ensures) (c .step .ensures)
 
-y-is : (c : tie.After-slot Inv-loop μ-loop Inv-queue μ-queue) → c .slot .result ≡ nextOf (bytes-at (queue-in (c .before .before .before))) (x-at (queue-in (c .before .before .before))) (target-at (c .before .before .before)) true
+y-is : (c : SavingSlot) → c .slot .result ≡ next-at (c .before .before .before) true
 y-is c = step-slot _ _ (asks (queue-in (c .before .before .before)) .laid) _ _ true _ (saving-is (c .before)) _ (c .slot .ensures)
 
-abbrev row-of : tie.After-is-bad Inv-loop μ-loop Inv-queue μ-queue → InRow
+abbrev row-of : Tested → InRow
 row-of c = c .before .before .before .before
 
 -- the test tells whether that slot is bad
-bad-is : (c : tie.After-is-bad Inv-loop μ-loop Inv-queue μ-queue) → c .is-bad .result ≡ badOf (blockOf (bytes-at (queue-in (row-of c)))) (at (blockOf (bytes-at (queue-in (row-of c)))) (nextOf (bytes-at (queue-in (row-of c))) (x-at (queue-in (row-of c))) (target-at (row-of c)) true))
+bad-is : (c : Tested) → c .is-bad .result ≡ badOf (blockOf (b-in (row-of c))) (at (blockOf (b-in (row-of c))) (next-at (row-of c) true))
 bad-is c =
     let q = queue-in (row-of c) in
     let B = blockOf (bytes-at q) in
@@ -189,68 +206,52 @@ bad-is c =
     ∙ ap (badOf B) (saving-is (c .before .before) ∙ sym (at-next liveFlag B (sound (bytes-at q) (asks q .formed)) (x-at q) (target-at (row-of c)) true (edge-at (row-of c))))
 
 -- ---- after the first slot was met
-good-at : (c : tie.Else1 Inv-loop μ-loop Inv-queue μ-queue) → ¬ graphOf (bytes-at (queue-in (row-of (c .before)))) .Bad (nextOf (bytes-at (queue-in (row-of (c .before)))) (x-at (queue-in (row-of (c .before)))) (target-at (row-of (c .before))) true)
+good-at : (c : Good) → ¬ graphOf (b-in (row-of (c .before))) .Bad (next-at (row-of (c .before)) true)
 good-at c h = true≢false (sym h ∙ sym (bad-is (c .before)) ∙ c .if1 .left)
 
-abbrev row-met : tie.After-meet Inv-loop μ-loop Inv-queue μ-queue → InRow
+abbrev row-met : MetOne → InRow
 row-met c = row-of (c .before .before .before)
 
-met-at : (c : tie.After-meet Inv-loop μ-loop Inv-queue μ-queue) → MeetSays (slotsOf (bytes-at (queue-in (row-met c)))) (row-met c .before .loop .work) (row-met c .before .loop .tail)
-    (nextOf (bytes-at (queue-in (row-met c))) (x-at (queue-in (row-met c))) (target-at (row-met c)) true) (queue-in (row-met c) .before .queue .head + 2) (c .meet .result) (c .meet .last .0)
+met-at : (c : MetOne) → MeetSays (slotsOf (b-in (row-met c))) (row-met c .before .loop .work) (row-met c .before .loop .tail)
+    (next-at (row-met c) true) (head-of (row-met c) + 2) (c .meet .result) (c .meet .last .0)
 met-at c = says-as (asks (queue-in (row-met c)) .slots-are) (y-is (c .before .before .before .before)) (c .meet .ensures)
 
 -- the step that saves nothing, its slot, and what meeting that gave
-abbrev met-of : tie.After-step2 Inv-loop μ-loop Inv-queue μ-queue → tie.After-meet Inv-loop μ-loop Inv-queue μ-queue
+abbrev met-of : Plain → MetOne
 met-of c = c .before .before .before
 
-plain-is : (c : tie.After-step2 Inv-loop μ-loop Inv-queue μ-queue) → c .step2 .result ≡ stepOf liveFlag (blockOf (bytes-at (queue-in (row-met (met-of c))))) (at (blockOf (bytes-at (queue-in (row-met (met-of c))))) (x-at (queue-in (row-met (met-of c))))) (target-at (row-met (met-of c))) false
+plain-is : (c : Plain) → c .step2 .result ≡ step-at (row-met (met-of c)) false
 plain-is c = step-is (row-met (met-of c)) false _ _ (met-of c .before .before .before .before .before .before .target .ensures) (c .step2 .ensures)
 
-z-is : (c : tie.After-slot2 Inv-loop μ-loop Inv-queue μ-queue) → c .slot2 .result ≡ nextOf (bytes-at (queue-in (row-met (met-of (c .before))))) (x-at (queue-in (row-met (met-of (c .before))))) (target-at (row-met (met-of (c .before)))) false
+z-is : (c : PlainSlot) → c .slot2 .result ≡ next-at (row-met (met-of (c .before))) false
 z-is c = step-slot _ _ (asks (queue-in (row-met (met-of (c .before)))) .laid) _ _ false _ (plain-is (c .before)) _ (c .slot2 .ensures)
 
 -- whether nothing is saved in x
 unsaved-is : (c : Apart) → eqb (c .of-slot .result .t) (table-at (queue-of c) .states) ≡ eqb (at (blockOf (bytes-at (queue-of c))) (x-at (queue-of c)) .t) (statesOf (bytes-at (queue-of c)))
 unsaved-is c = ap₂ (λ (r : Record) (n : ℕ). eqb (r .t) n) (r-is c) (asks (queue-of c) .laid .states-are)
 
-abbrev met-before : tie.After-meet-if Inv-loop μ-loop Inv-queue μ-queue → tie.After-meet Inv-loop μ-loop Inv-queue μ-queue
+abbrev met-before : MetBoth → MetOne
 met-before c = met-of (c .before .before .before)
 
-met-if-at : (c : tie.After-meet-if Inv-loop μ-loop Inv-queue μ-queue) → MeetIfSays (eqb (at (blockOf (bytes-at (queue-in (row-met (met-before c))))) (x-at (queue-in (row-met (met-before c)))) .t) (statesOf (bytes-at (queue-in (row-met (met-before c))))))
-    (slotsOf (bytes-at (queue-in (row-met (met-before c))))) (met-before c .meet .last .0) (met-before c .meet .result)
-    (nextOf (bytes-at (queue-in (row-met (met-before c)))) (x-at (queue-in (row-met (met-before c)))) (target-at (row-met (met-before c))) false) (queue-in (row-met (met-before c)) .before .queue .head + 2) (c .meet-if .result) (c .meet-if .last .1 .0)
+met-if-at : (c : MetBoth) → MeetIfSays (eqb (at (blockOf (b-in (row-met (met-before c)))) (x-of (row-met (met-before c))) .t) (statesOf (b-in (row-met (met-before c)))))
+    (slotsOf (b-in (row-met (met-before c)))) (met-before c .meet .last .0) (met-before c .meet .result)
+    (next-at (row-met (met-before c)) false) (head-of (row-met (met-before c)) + 2) (c .meet-if .result) (c .meet-if .last .1 .0)
 met-if-at c = let i = row-met (met-before c) in if-says-as (unsaved-is (apart-of (i .before .before))) (asks (queue-in i) .slots-are) (z-is (c .before .before)) (c .meet-if .ensures)
 
 -- target i is done
-done-at : (c : tie.After-meet-if Inv-loop μ-loop Inv-queue μ-queue) → Turned (bytes-at (queue-in (row-met (met-before c)))) (c .meet-if .last .1 .0) (queue-in (row-met (met-before c)) .before .queue .head) (c .meet-if .result) (x-at (queue-in (row-met (met-before c)))) (row-met (met-before c) .before .loop .i + 1)
-    × Met (slotsOf (bytes-at (queue-in (row-met (met-before c))))) (row-met (met-before c) .before .loop .work) (row-met (met-before c) .before .loop .tail) (c .meet-if .result) (c .meet-if .last .1 .0)
+done-at : (c : MetBoth) → Turned (b-in (row-met (met-before c))) (c .meet-if .last .1 .0) (head-of (row-met (met-before c))) (c .meet-if .result) (x-of (row-met (met-before c))) (row-met (met-before c) .before .loop .i + 1)
+    × Met (slotsOf (b-in (row-met (met-before c)))) (row-met (met-before c) .before .loop .work) (row-met (met-before c) .before .loop .tail) (c .meet-if .result) (c .meet-if .last .1 .0)
 done-at c =
     let m = met-before c in
     let i = row-met m in
     turned-on _ (asks (queue-in i) .formed) _ _ _ _ _ (turned-at i) (below-to i) (good-at (m .before .before)) _ _ (met-at m) _ _ (met-if-at c)
 
 -- ---- how the queue's loop was left: at its end, or in the middle of a row at a bad slot
-data Left (b : List ℕ) (S : ℕ) (w₀ w : List ℕ) (bad head : ℕ) : Type 0 where
-  ended : bad ≡ S → SameRest S w₀ w → Safe (graphOf b) → Left b S w₀ w bad head
-  stopped : bad < S → SameRest S w₀ w → Stopped b S w head bad → Left b S w₀ w bad head
-
-left-ended : {b : List ℕ} {S : ℕ} {w₀ w w′ : List ℕ} {bad bad′ head tail : ℕ} → S ≡ slotsOf b → Waiting b w₀ w bad head tail → tail ≤ head → w′ ≡ w → bad′ ≡ bad
-    → Left b S w₀ w′ bad′ head
-left-ended e v h p q = rw (e, p, q) (ended (v .none) (v .same) (search-ends (v .between) (omega (arith, v .between .log .head-le))))
-
-left-stopped : {b : List ℕ} {S : ℕ} {w₀ w w′ : List ℕ} {bad y head : ℕ} → S ≡ slotsOf b → y < slotsOf b → SameRest (slotsOf b) w₀ w → Stopped b (slotsOf b) w head y → w′ ≡ w → bad ≡ y
-    → Left b S w₀ w′ bad head
-left-stopped e l m k p q = rw (e, p, q) (stopped l m k)
-
-left-same : {b : List ℕ} {S : ℕ} {w₀ w : List ℕ} {bad head : ℕ} → Left b S w₀ w bad head → SameRest S w₀ w
-left-same (ended e s k) = s
-left-same (stopped l s k) = s
-
-abbrev LeftAt : tie.Left-queue Inv-loop μ-loop Inv-queue μ-queue → Type 0
+abbrev LeftAt : LeftQueue → Type 0
 LeftAt c = Left (now (c .before .before .before .before .args .bytes)) (c .before .before .before .before .args .slots) (now (c .before .before .before .before .args .work)) (c .queue-test .work) (c .queue-test .bad) (c .before .queue .head)
 
-at-bad : (p : tie.Then1 Inv-loop μ-loop Inv-queue μ-queue) (w : List ℕ) (bad : ℕ) → w ≡ row-of (p .before) .before .loop .work → bad ≡ p .before .before .slot .result
-    → Left (bytes-at (queue-in (row-of (p .before)))) (queue-in (row-of (p .before)) .before .before .before .before .args .slots) (now (queue-in (row-of (p .before)) .before .before .before .before .args .work)) w bad (queue-in (row-of (p .before)) .before .queue .head)
+at-bad : (p : AtBad) (w : List ℕ) (bad : ℕ) → w ≡ row-of (p .before) .before .loop .work → bad ≡ p .before .before .slot .result
+    → Left (b-in (row-of (p .before))) (queue-in (row-of (p .before)) .before .before .before .before .args .slots) (now (queue-in (row-of (p .before)) .before .before .before .before .args .work)) w bad (head-of (row-of (p .before)))
 at-bad p w bad e d =
     let i = row-of (p .before) in
     let q = queue-in i in
@@ -260,11 +261,11 @@ at-bad p w bad e d =
     (turned-stops _ f _ _ _ _ _ (turned-at i) (below-to i) (sym (bad-is (p .before)) ∙ p .if1 .taken))
     e (d ∙ y-is (p .before .before))
 
-left : (c : tie.Left-queue Inv-loop μ-loop Inv-queue μ-queue) → LeftAt c
+left : (c : LeftQueue) → LeftAt c
 left c =
     ⊎-elim (λ l. let (test, w, bad, tail) = l in left-ended (c .before .before .before .before .pre .slots-are) (c .before .queue .inv) (test .left) w bad) (λ r.
     let (q, x, o, g, f, r1, r2, l, t, n, s, y, b, i, w, bad, tail) = r in
-    let p : tie.Then1 Inv-loop μ-loop Inv-queue μ-queue = record { before = record { before = record { before = record { before = record { before = record { before = record { before = record { before = record { before = record { before = record { before = record { before = record { before = record { before = c .before; queue-test = q }; slice-known2 = x }; of-slot = o }; has-goal = g }; fair = f }; row-start = r1 }; row-start2 = r2 }; loop = l }; loop-test = t }; target = n }; step = s }; slot = y }; is-bad = b }; if1 = i } in
+    let p : AtBad = record { before = record { before = record { before = record { before = record { before = record { before = record { before = record { before = record { before = record { before = record { before = record { before = record { before = record { before = c .before; queue-test = q }; slice-known2 = x }; of-slot = o }; has-goal = g }; fair = f }; row-start = r1 }; row-start2 = r2 }; loop = l }; loop-test = t }; target = n }; step = s }; slot = y }; is-bad = b }; if1 = i } in
     at-bad p _ _ w bad) (c .queue-test .came)
 
 queue-holds : tie.Need-queue-holds Inv-loop μ-loop Inv-queue μ-queue

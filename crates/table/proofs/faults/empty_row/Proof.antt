@@ -2,7 +2,7 @@
 -- Assumes nothing.
 use mathlib.Core.Path.{_≡_, ap}
 use mathlib.Core.List.{List}
-use Prim.Native.Nat.{ℕ, suc, _-_, _≤_}
+use Prim.Native.Nat.{ℕ, suc, _-_}
 use native.Mathlib.Numerals.{add-one}
 use native.Mathlib.Omega.{arith}
 use denote.Ref.{now}
@@ -13,9 +13,6 @@ use Rattle.table.specs.Scan.{Scanned, scan-begins, scan-goes-on}
 use Rattle.table.proofs.Answers.{scan-finds, scan-ends}
 use Rattle.table.proofs.faults.empty_row.Statement.{statement}
 use Rattle.table.proofs.faults.empty_row.Tie as tie
-use Rattle.table.proofs.faults.empty_row.Reads as reads
-use Rattle.table.proofs.faults.empty_row.Lts as lts
-use Rattle.table.proofs.read.row_start.Reads as row-start-reads
 
 record At (b : List ℕ) (from s : ℕ) : Type 0 where
   -- no row before s is empty

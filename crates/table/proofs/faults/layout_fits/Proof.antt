@@ -4,9 +4,6 @@ use Rattle.table.specs.Open.{layoutFits}
 use borrow.Author.Needs.{needs}
 use Rattle.table.proofs.faults.layout_fits.Statement.{statement}
 use Rattle.table.proofs.faults.layout_fits.Tie as tie
-use Rattle.table.proofs.faults.layout_fits.Reads as reads
-use Rattle.table.proofs.faults.layout_fits.Lts as lts
-use Rattle.table.proofs.read.word.Reads as word-reads
 
 add-targets : tie.Need-add-targets
 add-targets c = search needs

@@ -16,9 +16,6 @@ use Rattle.table.specs.Scan.{Scanned, scan-begins, scan-goes-on}
 use Rattle.table.proofs.Answers.{scan-finds, scan-ends}
 use Rattle.table.proofs.faults.wrong_in_row.Statement.{statement}
 use Rattle.table.proofs.faults.wrong_in_row.Tie as tie
-use Rattle.table.proofs.faults.wrong_in_row.Reads as reads
-use Rattle.table.proofs.faults.wrong_in_row.Lts as lts
-use Rattle.table.proofs.read.target.Reads as target-reads
 
 record At (b : List ℕ) (from to least i : ℕ) : Type 0 where
   -- no target of the row before i is wrong

@@ -12,10 +12,6 @@ use Rattle.table.specs.Scan.{Scanned, scan-begins, scan-goes-on}
 use Rattle.table.proofs.Answers.{scan-finds, scan-ends}
 use Rattle.table.proofs.faults.wrong_mark.Statement.{statement}
 use Rattle.table.proofs.faults.wrong_mark.Tie as tie
-use Rattle.table.proofs.faults.wrong_mark.Reads as reads
-use Rattle.table.proofs.faults.wrong_mark.Lts as lts
-use Rattle.table.proofs.read.mark.Reads as mark-reads
-use Rattle.table.proofs.read.wide.Reads as wide-reads
 
 -- 4 shifted by m is 2^(2+m)
 limit-is : (m m′ : ℕ) → m ≡ m′ → m ≤ 4 → (4 * 2 ^ m) % 2 ^ 64 ≡ 2 ^ (2 + m′)

@@ -3,20 +3,17 @@
 use mathlib.Core.Path.{_≡_, refl, ap, _∙_}
 use mathlib.Core.Bool.{false}
 use mathlib.Core.List.{List}
-use Prim.Native.Nat.{ℕ, zero, suc, _+_, _-_, _≤_, _<_}
+use Prim.Native.Nat.{ℕ, suc, _+_, _-_, _≤_, _<_}
 use native.Mathlib.Decide.{decLt}
 use native.Mathlib.Omega.{arith}
 use denote.Ref.{now}
 use Rattle.table.specs.Layout.{statesOf, edgesOf, rowStart}
 use Rattle.table.specs.Open.{rowStartWrong}
-use Rattle.table.specs.Rows.{StartRight, start-says, start-wrong}
+use Rattle.table.specs.Rows.{start-says, start-wrong}
 use Rattle.table.specs.Scan.{Scanned, scan-begins, scan-on}
 use Rattle.table.proofs.Answers.{scan-finds, scan-ends}
 use Rattle.table.proofs.faults.wrong_row_start.Statement.{statement}
 use Rattle.table.proofs.faults.wrong_row_start.Tie as tie
-use Rattle.table.proofs.faults.wrong_row_start.Reads as reads
-use Rattle.table.proofs.faults.wrong_row_start.Lts as lts
-use Rattle.table.proofs.read.row_start.Reads as row-start-reads
 
 record At (b : List ℕ) (before i : ℕ) : Type 0 where
   pub from : 1 ≤ i

@@ -2,23 +2,19 @@
 -- Assumes nothing.
 use mathlib.Core.Path.{_≡_, sym, ap, _∙_}
 use mathlib.Core.List.{List}
-use Prim.Native.Nat.{ℕ, suc, _+_, _-_, _≤_}
+use Prim.Native.Nat.{ℕ, suc, _-_, _≤_}
 use native.Mathlib.Numerals.{add-one}
 use native.Mathlib.Omega.{arith}
 use denote.Ref.{now}
 use borrow.Author.Needs.{needs}
 use Rattle.table.specs.Layout.{statesOf, edgesOf, rowStart}
 use Rattle.table.specs.Open.{targetWrong}
-use Rattle.table.specs.Rows.{RowsRight, row-starts-to}
+use Rattle.table.specs.Rows.{row-starts-to}
 use Rattle.table.specs.Targets.{first-opens}
 use Rattle.table.specs.Scan.{Scanned, scan-begins}
 use Rattle.table.proofs.Answers.{scan-ends, part-finds, part-ends}
 use Rattle.table.proofs.faults.wrong_target.Statement.{statement}
 use Rattle.table.proofs.faults.wrong_target.Tie as tie
-use Rattle.table.proofs.faults.wrong_target.Reads as reads
-use Rattle.table.proofs.faults.wrong_target.Lts as lts
-use Rattle.table.proofs.faults.wrong_in_row.Reads as wrong-in-row-reads
-use Rattle.table.proofs.read.row_start.Reads as row-start-reads
 
 record At (b : List ℕ) (from s : ℕ) : Type 0 where
   pub to : s ≤ statesOf b

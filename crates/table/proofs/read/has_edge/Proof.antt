@@ -1,6 +1,6 @@
 -- `table::read::has_edge` meets its contract: it scans the row of s for the target s2, and an edge is a target in the row.
 -- Assumes nothing.
-use mathlib.Core.Path.{_≡_, sym, ap, _∙_}
+use mathlib.Core.Path.{sym, ap, _∙_}
 use mathlib.Core.Bool.{Bool, true≢false}
 use mathlib.Core.List.{List}
 use Prim.Native.Nat.{ℕ, suc, _-_, _<_}
@@ -17,10 +17,6 @@ use Rattle.table.specs.Sound.{edge-is}
 use Rattle.table.specs.Scan.{Scanned, scan-begins, scan-goes-on}
 use Rattle.table.proofs.read.has_edge.Statement.{statement}
 use Rattle.table.proofs.read.has_edge.Tie as tie
-use Rattle.table.proofs.read.has_edge.Reads as reads
-use Rattle.table.proofs.read.has_edge.Lts as lts
-use Rattle.table.proofs.read.row_start.Reads as row-start-reads
-use Rattle.table.proofs.read.target.Reads as target-reads
 
 -- target i is s2
 abbrev leads : List ℕ → ℕ → ℕ → Bool

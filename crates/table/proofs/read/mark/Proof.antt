@@ -6,8 +6,6 @@ use Rattle.table.specs.Layout.{mark}
 use borrow.Author.Needs.{needs}
 use Rattle.table.proofs.read.mark.Statement.{statement}
 use Rattle.table.proofs.read.mark.Tie as tie
-use Rattle.table.proofs.read.mark.Reads as reads
-use Rattle.table.proofs.read.mark.Lts as lts
 
 add-at : tie.Need-add-at
 add-at c = search needs

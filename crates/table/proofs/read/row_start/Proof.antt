@@ -2,9 +2,6 @@ use Rattle.table.specs.Layout.{rowStart}
 use borrow.Author.Needs.{needs}
 use Rattle.table.proofs.read.row_start.Statement.{statement}
 use Rattle.table.proofs.read.row_start.Tie as tie
-use Rattle.table.proofs.read.row_start.Reads as reads
-use Rattle.table.proofs.read.row_start.Lts as lts
-use Rattle.table.proofs.read.word.Reads as word-reads
 
 mul-word : tie.Need-mul-word
 mul-word c = search needs

@@ -2,9 +2,6 @@ use Rattle.table.specs.Layout.{wordAt}
 use borrow.Author.Needs.{needs}
 use Rattle.table.proofs.read.word.Statement.{statement}
 use Rattle.table.proofs.read.word.Tie as tie
-use Rattle.table.proofs.read.word.Reads as reads
-use Rattle.table.proofs.read.word.Lts as lts
-use Rattle.table.proofs.read.wide.Reads as wide-reads
 
 shared-slice-read-wide : tie.Need-shared-slice-read-wide
 shared-slice-read-wide c = search needs

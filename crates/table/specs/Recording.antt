@@ -1,0 +1,84 @@
+-- The recorded table of an accepted one: its slots, the slot graph, and what a slot leads to. Document 01, "The recorder". First the definitions,
+-- then the laws that what a step gives is in range and has the slot that the rules say. Assumes nothing.
+use mathlib.Core.Path.{_≡_, refl, _∙_}
+use mathlib.Core.Bool.{Bool, true}
+use mathlib.Core.List.{List}
+use Prim.Native.Nat.{ℕ, suc, _≤_, _<_}
+use native.Mathlib.Omega.{arith}
+use Rattle.order.specs.Graph.{Graph}
+use Rattle.recorder.specs.Flag.{liveFlag}
+use Rattle.recorder.specs.Recorder.{stepOf}
+use Rattle.recorder.specs.Slots.{slotCount, slotOf, InRange, saved-in, bits-in, record-in, slot-below}
+use Rattle.recorder.specs.Fits.{count-small}
+use Rattle.recorder.specs.SlotGraph.{slotGraph, at, slot, step-in-range}
+use Rattle.recorder.specs.declared.Record.{Record}
+use Rattle.table.specs.Layout.{statesOf, setsOf, rowStart}
+use Rattle.table.specs.BlockOf.{blockOf}
+use Rattle.table.specs.WellFormed.{WellFormed}
+use Rattle.table.specs.LaidOut.{LaidOut}
+use Rattle.table.specs.Sound.{sound}
+use Rattle.table.specs.declared.Table.{Table}
+
+-- how many slots a table has
+abbrev pub slotsOf : List ℕ → ℕ
+slotsOf b = slotCount (statesOf b) (setsOf b)
+
+-- the slot graph of a table
+abbrev pub graphOf : List ℕ → Graph
+graphOf b = slotGraph liveFlag (blockOf b)
+
+-- what slot x leads to along an edge to s′, with a save wish
+abbrev pub nextOf : List ℕ → ℕ → ℕ → Bool → ℕ
+nextOf b x s′ wish = slot (blockOf b) (stepOf liveFlag (blockOf b) (at (blockOf b) x) s′ wish)
+
+-- the state of slot x, and where its row starts and ends
+abbrev pub stateOf : List ℕ → ℕ → ℕ
+stateOf b x = at (blockOf b) x .s
+
+abbrev pub fromOf : List ℕ → ℕ → ℕ
+fromOf b x = rowStart b (stateOf b x)
+
+abbrev pub toOf : List ℕ → ℕ → ℕ
+toOf b x = rowStart b (suc (stateOf b x))
+
+-- nothing is saved in slot x
+abbrev pub Unsaved : List ℕ → ℕ → Type 0
+Unsaved b x = at (blockOf b) x .t ≡ statesOf b
+
+-- ---- laws
+
+pub block-states : (b : List ℕ) → blockOf b .n ≡ statesOf b
+unfolding blockOf
+block-states b = refl
+
+pub block-sets : (b : List ℕ) → blockOf b .m ≡ setsOf b
+unfolding blockOf
+block-sets b = refl
+
+-- slots are few
+pub slots-few : (b : List ℕ) → WellFormed b → slotsOf b < 4294967295
+slots-few b f = omega (arith, count-small (statesOf b) (setsOf b) (f .states-to) (omega (arith, f .sets-to)))
+
+-- a slot's state is a state
+pub state-in : (b : List ℕ) (x : ℕ) → x < slotsOf b → stateOf b x < statesOf b
+unfolding blockOf
+state-in b x h = record-in (statesOf b) (setsOf b) x h .s-in
+
+-- what a slot leads to is in range, and is a slot
+pub next-in-range : (b : List ℕ) (f : WellFormed b) (x s′ : ℕ) (wish : Bool) → blockOf b .edge (stateOf b x) s′ ≡ true
+    → InRange (statesOf b) (setsOf b) (stepOf liveFlag (blockOf b) (at (blockOf b) x) s′ wish)
+unfolding blockOf
+next-in-range b f x s′ wish e = step-in-range liveFlag (blockOf b) (sound b f) (at (blockOf b) x) s′ wish (saved-in _ _ x) (bits-in _ _ x) e
+
+pub next-in : (b : List ℕ) (f : WellFormed b) (x s′ : ℕ) (wish : Bool) → blockOf b .edge (stateOf b x) s′ ≡ true → nextOf b x s′ wish < slotsOf b
+unfolding blockOf
+next-in b f x s′ wish e = slot-below (statesOf b) (setsOf b) _ (next-in-range b f x s′ wish e)
+
+-- the same by the table that was opened: the record r that a step gave has a slot, and that is the next one
+module _ (b : List ℕ) (t : Table) (l : LaidOut b t) (x s′ : ℕ) (wish : Bool) (r : Record) (e : r ≡ stepOf liveFlag (blockOf b) (at (blockOf b) x) s′ wish) where
+  pub step-range : WellFormed b → blockOf b .edge (stateOf b x) s′ ≡ true → (t .states ≤ 64) × (t .sets ≤ 8) × InRange (t .states) (t .sets) r
+  step-range f d = (l .states-to, omega (arith, l .sets-to), rw (l .states-are, l .sets-are, e) (next-in-range b f x s′ wish d))
+
+  pub step-slot : (y : ℕ) → y ≡ slotOf (t .states) (t .sets) r → y ≡ nextOf b x s′ wish
+  unfolding blockOf
+  step-slot y d = d ∙ rw (l .states-are, l .sets-are, e)
