@@ -2,10 +2,10 @@
 -- Definitions only. Assumes nothing.
 use mathlib.Core.Bool.{cond}
 use mathlib.Core.List.{List, [], _∷_, _++_}
-use Prim.Native.Nat.{ℕ, suc, _+_, _*_, _/_, _%_}
+use Prim.Native.Nat.{ℕ, suc, _+_, _*_}
 use lib.Dec.{eqb}
 use lib.ListN.{length}
-use Rattle.table.specs.Layout.{rowsAt, targetsAt, marksAt}
+use Rattle.table.specs.Layout.{littleEndian, rowsAt, targetsAt, marksAt}
 
 -- what stands in a description: for each state the states that it leads to, the start states, the states with the goal, and the
 -- members of each fairness set
@@ -14,11 +14,6 @@ pub record Drawn : Type 0 where
   pub starts : List ℕ
   pub goals : List ℕ
   pub sets : List (List ℕ)
-
--- the numbers as bytes, little-endian, 32 bits each
-abbrev pub littleEndian : List ℕ → List ℕ
-littleEndian [] = []
-littleEndian (x ∷ xs) = x % 256 ∷ (x / 256 % 256) ∷ (x / 65536 % 256) ∷ (x / 16777216 % 256) ∷ littleEndian xs
 
 -- the rows end to end
 abbrev pub joined : List (List ℕ) → List ℕ

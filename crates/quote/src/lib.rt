@@ -27,7 +27,7 @@ pub struct Quoted {
 }
 
 // E, for n states, e edges and m sets.
-pub(crate) fn edge_count(n: usize, e: usize, m: usize) -> usize
+pub fn edge_count(n: usize, e: usize, m: usize) -> usize
     requires { ⌜ (n ≤ 64) × (e ≤ 1024) × (m ≤ 8) ⌝ }
     ensures { λ r. ⌜ r ≡ edgeCount n e m ⌝ }
 {

@@ -78,7 +78,7 @@ module _ (F : Flag) (B : Block) where
         }
 
     -- every record of a run is in range
-    run-in-range : (rs : List Record) → RecordRun F B rs → (i : ℕ) → i < length rs → InRange (B .n) (B .m) (recordOf rs i)
+    pub run-in-range : (rs : List Record) → RecordRun F B rs → (i : ℕ) → i < length rs → InRange (B .n) (B .m) (recordOf rs i)
     run-in-range rs run zero h = let (s, k, e) = run .starts in subst (InRange (B .n) (B .m)) (sym e) (start-in-range F B ok s k)
     run-in-range rs run (suc i) h =
         let (w, k, e) = run .steps i h in
@@ -86,10 +86,10 @@ module _ (F : Flag) (B : Block) where
         subst (InRange (B .n) (B .m)) (sym e) (step-in-range F B ok (recordOf rs i) (recordOf rs (suc i) .s) w (r .t-in) (r .v-in) k)
 
     -- so each is the record of its slot
-    at-place : (rs : List Record) → RecordRun F B rs → (i : ℕ) → i < length rs → at B (slot B (recordOf rs i)) ≡ recordOf rs i
+    pub at-place : (rs : List Record) → RecordRun F B rs → (i : ℕ) → i < length rs → at B (slot B (recordOf rs i)) ≡ recordOf rs i
     at-place rs run i h = let r = run-in-range rs run i h in record-of-slot (B .n) (B .m) _ (r .t-in) (r .v-in)
 
-    slot-step : (r r′ : Record) → at B (slot B r) ≡ r → StepTo F B r r′ → slotGraph F B .Edge (slot B r) (slot B r′)
+    pub slot-step : (r r′ : Record) → at B (slot B r) ≡ r → StepTo F B r r′ → slotGraph F B .Edge (slot B r) (slot B r′)
     slot-step r r′ a (w, h, e) =
         (r′ .s, w, subst (λ (q : Record). B .edge (q .s) (r′ .s) ≡ true) (sym a) h, ap (slot B) e ∙ ap (λ (q : Record). slot B (stepOf F B q (r′ .s) w)) (sym a))
 

@@ -1,6 +1,6 @@
 -- Where a table's numbers stand in its bytes. Document 01, "The table file". Definitions only. Assumes nothing.
-use mathlib.Core.List.{List}
-use Prim.Native.Nat.{ℕ, _+_, _*_}
+use mathlib.Core.List.{List, [], _∷_}
+use Prim.Native.Nat.{ℕ, _+_, _*_, _/_, _%_}
 use lib.ListN.{getD}
 use Rattle.table.specs.declared.Table.{Table}
 
@@ -10,6 +10,11 @@ byteAt b i = getD b i 0
 -- the little-endian 32-bit number that starts at index i
 unfoldable pub wordAt : List ℕ → ℕ → ℕ
 wordAt b i = byteAt b i + 256 * byteAt b (i + 1) + 65536 * byteAt b (i + 2) + 16777216 * byteAt b (i + 3)
+
+-- and the other way: numbers as bytes, little-endian, 32 bits each
+abbrev pub littleEndian : List ℕ → List ℕ
+littleEndian [] = []
+littleEndian (x ∷ xs) = x % 256 ∷ (x / 256 % 256) ∷ (x / 65536 % 256) ∷ (x / 16777216 % 256) ∷ littleEndian xs
 
 -- ---- the header's seven numbers
 abbrev pub kindOf : List ℕ → ℕ

@@ -15,3 +15,5 @@ pub mod WellFormed
 pub mod Sound
 pub mod Row
 pub mod Recording
+pub mod Labels
+pub mod Little

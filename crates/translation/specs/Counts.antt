@@ -1,0 +1,167 @@
+-- The sizes of the translated file. Document 01, "The recorder": each slot's row has, for each edge of its state, one target where something is
+-- saved and two where nothing is, so that all rows together have E = e(n+2)·2^(m+1) targets and the file has 32 + 5S + 4E bytes. The rows are
+-- counted in three inductions: over the flags and bits of one state and one saved t, over the t, over the states. Assumes nothing.
+use mathlib.Core.Path.{_≡_, refl, ap, _∙_}
+use mathlib.Core.Bool.{Bool, true, false, cond}
+use mathlib.Core.Logic.{_⊎_, inl, inr}
+use mathlib.Core.List.{List, [], _∷_, _++_}
+use Prim.Native.Nat.{ℕ, zero, suc, _+_, _-_, _*_, _/_, _%_, _^_, _≤_, _<_}
+use native.Mathlib.Nat.{eq-or-lt-of-le, le-of-eq}
+use native.Mathlib.Omega.{arith}
+use lib.Arith.{digits-div, digits-mod}
+use lib.Dec.{eqb}
+use lib.ListN.{length, getD, length-append, List·getD-append}
+use lib.Pow.{shr-shr}
+use lib.Seq.{getD-at}
+use borrow.Author.Tests.{eq-eqb, ne-eqb}
+use Rattle.quote.specs.Sizes.{edgeCount, translatedLength, stepsOf}
+use Rattle.recorder.specs.Slots.{slotCount, recordOfSlot}
+use Rattle.recorder.specs.SlotGraph.{at}
+use Rattle.table.specs.BlockOf.{blockOf}
+use Rattle.table.specs.Layout.{littleEndian, statesOf, edgesOf, setsOf, rowStart, target}
+use Rattle.table.specs.Recording.{slotsOf, fromOf, toOf, nextOf}
+use Rattle.table.specs.WellFormed.{WellFormed}
+use Rattle.translation.specs.File.{alongOf, alongFrom, rowOf, targetsTo, listed, startOfRow, fileOf}
+
+-- ---- lists
+
+-- a list of k numbers has k
+pub length-listed : (f : ℕ → ℕ) (k : ℕ) → length (listed f k) ≡ k
+unfolding listed
+length-listed f zero = refl
+length-listed f (suc k) = rw (length-append, length-listed f k) (omega arith)
+
+-- and f i at place i
+pub getD-listed : (f : ℕ → ℕ) (k i : ℕ) → i < k → getD (listed f k) i 0 ≡ f i
+unfolding listed
+getD-listed f zero i h = absurd (omega arith)
+getD-listed f (suc k) i h = go (eq-or-lt-of-le h) (getD-listed f k i)
+  where
+    go : (suc i ≡ suc k) ⊎ (suc i < suc k) → (i < k → getD (listed f k) i 0 ≡ f i) → getD (listed f k ++ (f k ∷ [])) i 0 ≡ f i
+    go (inl e) ih = let d : i ≡ k = omega arith in rw d (getD-at (listed f k) (f k) [] 0 k (length-listed f k))
+    go (inr l) ih = List·getD-append (listed f k) (f k ∷ []) 0 i (omega (arith, length-listed f k)) ∙ ih (omega arith)
+
+-- four bytes a number
+pub length-little : (xs : List ℕ) → length (littleEndian xs) ≡ 4 * length xs
+length-little [] = refl
+length-little (x ∷ xs) = omega (arith, length-little xs)
+
+-- ---- one row
+
+-- along one edge: as many targets as the quote counts steps
+length-along : (b : List ℕ) (p s′ : ℕ) → length (alongOf b p s′) ≡ stepsOf (blockOf b .n) (at (blockOf b) p .t)
+length-along b p s′ = go (eqb (at (blockOf b) p .t) (blockOf b .n))
+  where
+    go : (u : Bool) → length (nextOf b p s′ true ∷ cond u (nextOf b p s′ false ∷ []) []) ≡ cond u 2 1
+    go true = refl
+    go false = refl
+
+-- along k edges
+length-along-from : (b : List ℕ) (p i k : ℕ) → length (alongFrom b p i k) ≡ k * stepsOf (blockOf b .n) (at (blockOf b) p .t)
+unfolding alongFrom
+length-along-from b p i zero = omega arith
+length-along-from b p i (suc k) = rw (length-append, length-along b p (target b i), length-along-from b p (suc i) k) (omega arith)
+
+-- a row has that many for each edge of the slot's state
+pub length-row : (b : List ℕ) (p : ℕ) → length (rowOf b p) ≡ (toOf b p - fromOf b p) * stepsOf (blockOf b .n) (at (blockOf b) p .t)
+unfolding rowOf
+length-row b p = length-along-from b p (fromOf b p) (toOf b p - fromOf b p)
+
+-- the next row starts where this one ends
+pub starts-step : (b : List ℕ) (p : ℕ) → startOfRow b (suc p) ≡ startOfRow b p + length (rowOf b p)
+unfolding targetsTo
+starts-step b p = length-append (targetsTo b p) (rowOf b p)
+
+-- so the starts never fall
+pub starts-rise : (b : List ℕ) (p q : ℕ) → p ≤ q → startOfRow b p ≤ startOfRow b q
+starts-rise b p zero h = le-of-eq (ap (startOfRow b) (omega arith))
+starts-rise b p (suc q) h = go (eq-or-lt-of-le h) (starts-rise b p q)
+  where
+    go : (p ≡ suc q) ⊎ (p < suc q) → (p ≤ q → startOfRow b p ≤ startOfRow b q) → startOfRow b p ≤ startOfRow b (suc q)
+    go (inl e) ih = le-of-eq (ap (startOfRow b) e)
+    go (inr l) ih = omega (arith, ih (omega arith), starts-step b q)
+
+-- ---- all rows
+
+-- the slots of one state s and one saved t follow each other, one for each flag and bits
+module _ (n m s t r : ℕ) (ht : t ≤ n) (hr : r < 2 ^ (m + 1)) where
+  -- without flag and bits, their numbers are one
+  within : ((s * (n + 1) + t) * 2 ^ (m + 1) + r) / 2 ^ m / 2 ≡ s * (n + 1) + t
+  within = shr-shr ((s * (n + 1) + t) * 2 ^ (m + 1) + r) m 1 ∙ digits-div (s * (n + 1) + t) hr
+
+  -- so their records have the state s, and saved t
+  state-there : recordOfSlot n m ((s * (n + 1) + t) * 2 ^ (m + 1) + r) .s ≡ s
+  unfolding recordOfSlot
+  state-there = ap (λ (x : ℕ). x / (n + 1)) within ∙ digits-div s (omega arith)
+
+  saved-there : recordOfSlot n m ((s * (n + 1) + t) * 2 ^ (m + 1) + r) .t ≡ t
+  unfolding recordOfSlot
+  saved-there = ap (λ (x : ℕ). x % (n + 1)) within ∙ digits-mod s (omega arith)
+
+-- the first of those slots
+abbrev firstOf : List ℕ → ℕ → ℕ → ℕ
+firstOf b s t = (s * (statesOf b + 1) + t) * 2 ^ (setsOf b + 1)
+
+-- how many edges leave s
+abbrev edgesFrom : List ℕ → ℕ → ℕ
+edgesFrom b s = rowStart b (suc s) - rowStart b s
+
+-- the row of each of those slots
+length-there : (b : List ℕ) (s t r : ℕ) → t ≤ statesOf b → r < 2 ^ (setsOf b + 1)
+    → length (rowOf b (firstOf b s t + r)) ≡ edgesFrom b s * stepsOf (statesOf b) t
+unfolding blockOf
+length-there b s t r ht hr =
+    length-row b (firstOf b s t + r) ∙ rw (state-there (statesOf b) (setsOf b) s t r ht hr, saved-there (statesOf b) (setsOf b) s t r ht hr)
+
+-- over the flags and bits: r of them passed
+starts-bits : (b : List ℕ) (s t r : ℕ) → t ≤ statesOf b → r ≤ 2 ^ (setsOf b + 1)
+    → startOfRow b (firstOf b s t + r) ≡ startOfRow b (firstOf b s t) + r * (edgesFrom b s * stepsOf (statesOf b) t)
+starts-bits b s t zero ht hr = let h : firstOf b s t + 0 ≡ firstOf b s t = omega arith in rw h (omega arith)
+starts-bits b s t (suc r) ht hr =
+    let h : firstOf b s t + suc r ≡ suc (firstOf b s t + r) = omega arith in
+    rw h (omega (arith, starts-step b (firstOf b s t + r), length-there b s t r ht hr, starts-bits b s t r ht (omega arith)))
+
+-- from one saved t to the next
+starts-next : (b : List ℕ) (s t : ℕ) → t ≤ statesOf b
+    → startOfRow b (firstOf b s (suc t)) ≡ startOfRow b (firstOf b s t) + 2 ^ (setsOf b + 1) * (edgesFrom b s * stepsOf (statesOf b) t)
+starts-next b s t ht =
+    let h : firstOf b s (suc t) ≡ firstOf b s t + 2 ^ (setsOf b + 1) = omega arith in
+    ap (startOfRow b) h ∙ starts-bits b s t (2 ^ (setsOf b + 1)) ht (omega arith)
+
+-- over the t below n: t of them passed, each with one target an edge
+starts-saved : (b : List ℕ) (s t : ℕ) → t ≤ statesOf b
+    → startOfRow b (firstOf b s t) ≡ startOfRow b (firstOf b s 0) + t * edgesFrom b s * 2 ^ (setsOf b + 1)
+starts-saved b s zero ht = omega arith
+starts-saved b s (suc t) ht =
+    let h = rw (ne-eqb t (statesOf b) (λ e. omega arith)) at (starts-next b s t (omega arith)) in
+    omega (arith, starts-saved b s t (omega arith))
+
+-- over the states: each has n such t, and t = n, where nothing is saved, with two targets an edge
+starts-states : (b : List ℕ) → WellFormed b → (s : ℕ) → s ≤ statesOf b
+    → startOfRow b (firstOf b s 0) ≡ rowStart b s * (statesOf b + 2) * 2 ^ (setsOf b + 1)
+unfolding targetsTo
+starts-states b f zero hs = let h : firstOf b 0 0 ≡ 0 = omega arith in rw (h, f .rows .first-row) (omega arith)
+starts-states b f (suc s) hs =
+    let n = statesOf b in
+    let h : firstOf b (suc s) 0 ≡ firstOf b s (suc n) = omega arith in
+    let d : rowStart b (suc s) ≡ rowStart b s + edgesFrom b s = omega (arith, f .rows .rows-rise s hs) in
+    let l = rw (eq-eqb n n refl) at (starts-next b s n (omega arith)) in
+    rw (h, d) (omega (arith, starts-saved b s n (omega arith), starts-states b f s (omega arith)))
+
+-- all rows together have E targets
+pub all-targets : (b : List ℕ) → WellFormed b → startOfRow b (slotsOf b) ≡ edgeCount (statesOf b) (edgesOf b) (setsOf b)
+unfolding edgeCount slotCount
+all-targets b f =
+    let h : slotsOf b ≡ firstOf b (statesOf b) 0 = omega arith in
+    ap (startOfRow b) h ∙ starts-states b f (statesOf b) (omega arith) ∙ rw (f .rows .last-row)
+
+-- no row starts past E
+pub starts-to : (b : List ℕ) → WellFormed b → (p : ℕ) → p ≤ slotsOf b → startOfRow b p ≤ edgeCount (statesOf b) (edgesOf b) (setsOf b)
+starts-to b f p h = omega (arith, starts-rise b p (slotsOf b) h, all-targets b f)
+
+-- ---- the file
+
+-- the file is as long as the quote says
+pub length-file : (b : List ℕ) → WellFormed b → length (fileOf b) ≡ translatedLength (slotsOf b) (edgeCount (statesOf b) (edgesOf b) (setsOf b))
+unfolding fileOf
+length-file b f = simp (length-append, length-little, length-listed) (omega (arith, all-targets b f))
