@@ -5,7 +5,6 @@ mod meet;
 mod scan;
 mod starts;
 
-ghost use mathlib.Core.Path.{_≡_};
 ghost use Rattle.search.specs.Searched.{SearchSays};
 ghost use Rattle.search.specs.Find.{FindAsks, FindSays};
 use scan::Seen;

@@ -1,6 +1,4 @@
 // Meeting a slot: its origin is written and it is queued, unless it was met before.
-ghost use mathlib.Core.Path.{_≡_};
-ghost use mathlib.Core.Bool.{true, false};
 ghost use Rattle.search.specs.Meet.{MeetAsks, MeetSays, MeetIfSays};
 
 // Meets slot x with an origin; answers the queue's length afterwards.

@@ -1,5 +1,4 @@
 // The nested scan of queue and row, left at the first bad slot, in the middle of a row if need be.
-ghost use mathlib.Core.Path.{_≡_};
 ghost use Rattle.search.specs.Scan.{ScanAsks, ScanSays};
 use super::meet;
 use recorder::Record;
