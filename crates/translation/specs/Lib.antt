@@ -1,8 +1,15 @@
 pub mod File
 pub mod Counts
+pub mod Translated
 pub mod Leads
 pub mod Sections
 pub mod ReadBack
 pub mod Marks
 pub mod Demand3
+pub mod Placed
+pub mod Asks
+pub mod Header
+pub mod Writing
+pub mod Laws
+pub mod Written
 pub mod Tests

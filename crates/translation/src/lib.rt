@@ -1,2 +1,42 @@
-// The translated table. Document 01, "The recorder", its last paragraph. The rules and the theorems about the file stand in specs/; the function that
-// writes it is not there yet.
+// The translated table. Document 01, "The recorder" (its last paragraph) and line 11 of "Refusal list". The rules stand in specs/.
+mod marks;
+mod put;
+mod rows;
+mod targets;
+
+ghost use Rattle.translation.specs.Translated.{TranslateSays};
+use table::Opened;
+use table::Refusal;
+
+// What a translation answers: how many bytes were written, or why it is refused.
+pub enum Answer {
+    Written(usize),
+    Refused(Refusal),
+}
+
+// Translates the table in the bytes into the output, where it has room.
+pub fn translate(bytes: &[u8], out: &mut [u8]) -> Answer
+    ensures { λ a. ⌜ TranslateSays (now (bytes .entry)) (now (out .entry)) a (now (out .exit)) ⌝ }
+{
+    let answer = table::open(bytes);
+    let Opened::Accepted(t) = answer else {
+        return match answer {
+            Opened::Refused(why) => Answer::Refused(why),
+            // Not reached: the table was not accepted.
+            Opened::Accepted(_) => Answer::Refused(Refusal::TooShort),
+        };
+    };
+    let slots = recorder::slot_count(t.states, t.sets);
+    let edges = quote::edge_count(t.states, t.edges, t.sets);
+    let targets = 32 + 4 * slots;
+    let marks = targets + 4 * edges;
+    let size = marks + slots;
+    if out.len() < size {
+        return Answer::Refused(Refusal::ShortOutput);
+    }
+    put::write_header(&mut out[0..28], slots, edges);
+    rows::write_rows(bytes, t, &mut out[28..targets], slots);
+    targets::write_targets(bytes, t, &mut out[targets..marks], slots);
+    marks::write_marks(bytes, t, &mut out[marks..size], slots);
+    Answer::Written(size)
+}

@@ -1,0 +1,42 @@
+// The twelve tables of document 01, "Tables by hand", each with an output of exactly its size. Each line has the whole output.
+use super::room::whole;
+use super::tables;
+
+fn first_four() {
+    let a = tables::A;
+    let b = tables::B;
+    let c = tables::C;
+    let d = tables::D;
+    whole(b"a", &a, 616);
+    whole(b"b", &b, 424);
+    whole(b"c", &c, 76);
+    whole(b"d", &d, 76);
+}
+
+fn next_four() {
+    let e = tables::E;
+    let f = tables::F;
+    let g = tables::G;
+    let h = tables::H;
+    whole(b"e", &e, 344);
+    whole(b"f", &f, 280);
+    whole(b"g", &g, 528);
+    whole(b"h", &h, 188);
+}
+
+fn last_four() {
+    let i = tables::I;
+    let j = tables::J;
+    let k = tables::K;
+    let l = tables::L;
+    whole(b"i", &i, 472);
+    whole(b"j", &j, 1004);
+    whole(b"k", &k, 76);
+    whole(b"l", &l, 736);
+}
+
+pub(crate) fn run() {
+    first_four();
+    next_four();
+    last_four();
+}

@@ -1,0 +1,37 @@
+// Large translations. Document 01, "The recorder". The lines have sums: the sum of all bytes, and the sum of the sums up to each.
+use super::ring::put_goal;
+use super::ring::put_ring;
+use super::ring::put_sets;
+use super::room::summed;
+use super::tables;
+
+// 64,256 bytes: the 65,536 of the program `translate` are enough.
+fn nine(n: usize) {
+    let nine = tables::NINE;
+    summed(b"nine states, all edges", &nine, n);
+}
+
+fn ring_case(name: &[u8], ring: &[u8; 608], n: usize) {
+    summed(name, ring, n);
+}
+
+// 75,424 bytes, and with three sets 603,168: there S is 66,560 and E is 67,584, and numbers take three bytes.
+fn rings() {
+    let mut ring = [0u8; 608];
+    put_ring(&mut ring);
+    ring_case(b"ring of 64", &ring, 65536);
+    ring_case(b"ring of 64", &ring, 75424);
+    put_goal(&mut ring);
+    ring_case(b"ring of 64, goal at the last", &ring, 75424);
+    put_sets(&mut ring);
+    ring_case(b"ring of 64, three sets", &ring, 603167);
+    ring_case(b"ring of 64, three sets", &ring, 603168);
+    ring_case(b"ring of 64, three sets", &ring, 603200);
+}
+
+pub(crate) fn run() {
+    nine(65536);
+    nine(64256);
+    nine(64255);
+    rings();
+}

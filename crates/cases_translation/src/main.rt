@@ -1,0 +1,21 @@
+// Cases of a translation, one line each, held to the file `stdout`. Document 01, "The recorder", "Refusal list" and "Tables by hand".
+mod again;
+mod hand;
+mod large;
+mod lengths;
+mod pattern;
+mod refused;
+mod ring;
+mod room;
+mod sets;
+mod show;
+mod tables;
+
+fn main() {
+    hand::run();
+    lengths::run();
+    again::run();
+    refused::run();
+    sets::run();
+    large::run();
+}

@@ -1,0 +1,51 @@
+-- `translation::targets::write_targets` meets its contract: when slot p comes, the rows of the slots below it are written (`Targeting`). Assumes nothing.
+use Prim.Native.Nat.{_-_}
+use native.Mathlib.Omega.{arith}
+use denote.Ref.{now}
+use Rattle.translation.specs.Writing.{Targeting, targeting-begins, targeting-room, targeting-on, targeting-ends}
+use Rattle.translation.proofs.targets.write_targets.Statement.{statement}
+use Rattle.translation.proofs.targets.write_targets.Tie as tie
+
+abbrev Inv-loop : tie.InvT-loop
+Inv-loop bytes t part₀ slots at₀ p₀ part at p = Targeting bytes part₀ slots part at p
+
+abbrev μ-loop : tie.MeasureT-loop
+μ-loop bytes t part₀ slots at₀ p₀ part at p = slots - p
+
+loop-holds : tie.Need-loop-holds Inv-loop μ-loop
+loop-holds c = let d = c .before .before in targeting-begins (now (d .args .bytes)) (now (d .args .part)) (d .args .slots) (d .pre .1)
+
+write-row-requires : tie.Need-write-row-requires Inv-loop μ-loop
+write-row-requires c κs = let i = c .before in (i .before .before .before .before .pre .0, (i .loop-test .taken, targeting-room (i .before .loop .inv) (i .loop-test .taken)))
+
+add-p : tie.Need-add-p Inv-loop μ-loop
+add-p c = let i = c .before .before .before .before in omega (arith, i .loop-test .taken, i .before .before .before .before .fits)
+
+loop-less : tie.Need-loop-less Inv-loop μ-loop
+loop-less c = omega (arith, c .before .before .before .before .loop-test .taken)
+
+loop-again : tie.Need-loop-again Inv-loop μ-loop
+loop-again c =
+    let k = c .before .before in
+    let i = k .before .before in
+    targeting-on (i .before .loop .inv) (i .loop-test .taken) (k .write-row .ensures .0) (k .write-row .ensures .1)
+
+same-length : tie.Need-same-length Inv-loop μ-loop
+same-length c = c .before .loop .inv .same-length
+
+returns : tie.Need-returns Inv-loop μ-loop
+returns c = targeting-ends (c .before .loop .inv) (c .loop-test .left)
+
+pub write-targets-spec : {M : Type 1} → statement M
+write-targets-spec =
+    tie.close
+    (tie.spec
+    Inv-loop
+    μ-loop
+    loop-holds
+    write-row-requires
+    add-p
+    loop-less
+    loop-again
+    same-length
+    returns)

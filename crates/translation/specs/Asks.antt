@@ -1,0 +1,130 @@
+-- What each writer asks of the table: it is accepted, and its slots are counted. Then what is known of slot p's record, as the code takes it apart, and
+-- the numbers that the code computes of it: its mark, and how long its row is. Assumes nothing.
+use mathlib.Core.Path.{_≡_, refl, sym, ap, ap₂, _∙_}
+use mathlib.Core.Bool.{Bool, true, false, cond, _&&_}
+use mathlib.Core.List.{List}
+use Prim.Native.Nat.{ℕ, suc, _+_, _-_, _*_, _^_, _≤_, _<_}
+use native.Mathlib.Numerals.{add-one}
+use native.Mathlib.Omega.{arith}
+use lib.Dec.{eqb}
+use lib.ListN.{length}
+use lib.Pow.{pow-pos}
+use mir.Val.{boolByte}
+use Rattle.recorder.specs.Flag.{liveFlag}
+use Rattle.recorder.specs.Recorder.{startOf, badOf, unsaved}
+use Rattle.recorder.specs.Slots.{slotOf, recordOfSlot, bitOf, InRange}
+use Rattle.recorder.specs.SlotGraph.{at, slot}
+use Rattle.recorder.specs.Says.{StartSays, BadSays}
+use Rattle.recorder.specs.declared.Record.{Record}
+use Rattle.quote.specs.Sizes.{edges-small}
+use Rattle.table.specs.BlockOf.{blockOf}
+use Rattle.table.specs.Layout.{statesOf, edgesOf, setsOf, rowStart}
+use Rattle.table.specs.WellFormed.{WellFormed}
+use Rattle.table.specs.LaidOut.{LaidOut}
+use Rattle.table.specs.Row.{row-some, row-to}
+use Rattle.table.specs.Recording.{slotsOf, stateOf, fromOf, toOf, slots-few, state-in, block-states, block-sets}
+use Rattle.table.specs.declared.Table.{Table}
+use Rattle.translation.specs.Counts.{length-row, starts-to}
+use Rattle.translation.specs.File.{rowOf, startOfRow, isStart, markOf}
+
+pub record Asks (b : List ℕ) (t : Table) (S : ℕ) : Type 0 where
+  pub formed : WellFormed b
+  pub laid : LaidOut b t
+  pub slots-are : S ≡ slotsOf b
+
+-- the slots are few, and no row starts far
+pub slots-small : {b : List ℕ} {t : Table} {S : ℕ} → Asks b t S → S < 4294967295
+slots-small {b} a = omega (arith, a .slots-are, slots-few b (a .formed))
+
+pub starts-small : {b : List ℕ} {t : Table} {S p : ℕ} → Asks b t S → p ≤ S → startOfRow b p ≤ 1024 * 66 * 2 ^ 9
+starts-small {b} {p = p} a h =
+    let f = a .formed in
+    omega (arith, starts-to b f p (omega (arith, a .slots-are)), edges-small (statesOf b) (edgesOf b) (setsOf b) (f .states-to) (f .edges-to) (omega (arith, f .sets-to)))
+
+-- the machine's number of a bool is the rule's
+pub byte-is-bit : (u : Bool) → boolByte u ≡ bitOf u
+byte-is-bit true = refl
+byte-is-bit false = refl
+
+pub byte-small : (u : Bool) → boolByte u ≤ 1
+byte-small u = rw (byte-is-bit u) (go u)
+  where
+    go : (u : Bool) → bitOf u ≤ 1
+    go true = omega arith
+    go false = omega arith
+
+-- a start record is in range
+start-range : (b : List ℕ) (s : ℕ) → s < statesOf b → InRange (statesOf b) (setsOf b) (startOf liveFlag (blockOf b) s)
+unfolding blockOf
+start-range b s h = record { s-in = h; t-in = omega arith; v-in = pow-pos (setsOf b) }
+
+-- r is the record of slot p, as the code takes it apart
+module _ {b : List ℕ} {t : Table} {S p : ℕ} {r : Record} (a : Asks b t S) (h : p < S) (e : r ≡ recordOfSlot (t .states) (t .sets) p) where
+  pub slot-in : p < slotsOf b
+  slot-in = omega (arith, a .slots-are)
+
+  pub record-is : r ≡ at (blockOf b) p
+  unfolding blockOf
+  record-is = e ∙ ap₂ (λ (n m : ℕ). recordOfSlot n m p) (a .laid .states-are) (a .laid .sets-are)
+
+  pub state-below : r .s < t .states
+  state-below = omega (arith, ap (λ (r : Record). r .s) record-is, a .laid .states-are, state-in b p slot-in)
+
+  pub unsaved-is : eqb (r .t) (t .states) ≡ unsaved (blockOf b) (at (blockOf b) p .t)
+  unsaved-is = ap₂ (λ (r : Record) (n : ℕ). eqb (r .t) n) record-is (a .laid .states-are ∙ sym (block-states b))
+
+  -- its row
+  pub from-is : {from : ℕ} → from ≡ rowStart b (r .s) → from ≡ fromOf b p
+  from-is d = d ∙ ap (λ (r : Record). rowStart b (r .s)) record-is
+
+  pub to-is : {to : ℕ} → to ≡ rowStart b (r .s + 1) → to ≡ toOf b p
+  to-is d = d ∙ ap (rowStart b) (add-one (r .s)) ∙ ap (λ (r : Record). rowStart b (suc (r .s))) record-is
+
+  pub row-in : (fromOf b p < toOf b p) × (toOf b p ≤ t .edges)
+  row-in =
+      let s-in = state-in b p slot-in in
+      (row-some b (a .formed) (stateOf b p) s-in, omega (arith, row-to b (a .formed) (stateOf b p) s-in, a .laid .edges-are))
+
+  -- how long it is
+  pub row-counted : {from to : ℕ} → from ≡ rowStart b (r .s) → to ≡ rowStart b (r .s + 1) → (to - from) * (1 + boolByte (eqb (r .t) (t .states))) ≡ length (rowOf b p)
+  row-counted {from} {to} d d′ =
+      ap₂ _*_ (ap₂ _-_ (to-is d′) (from-is d)) (ap (λ (u : Bool). 1 + boolByte u) unsaved-is ∙ go (unsaved (blockOf b) (at (blockOf b) p .t)))
+      ∙ sym (length-row b p)
+    where
+      go : (u : Bool) → 1 + boolByte u ≡ cond u 2 1
+      go true = refl
+      go false = refl
+
+  -- which is not much
+  pub row-few : length (rowOf b p) ≤ 2 * t .edges
+  row-few = rw (length-row b p) (go (toOf b p - fromOf b p) (unsaved (blockOf b) (at (blockOf b) p .t)) (omega (arith, row-in)))
+    where
+      go : (k : ℕ) (u : Bool) → k ≤ t .edges → k * cond u 2 1 ≤ 2 * t .edges
+      go k true h = omega arith
+      go k false h = omega arith
+
+  -- the start record of its state
+  module _ {first : Record} (d : StartSays (r .s) (t .states) first) where
+    first-is : first ≡ startOf liveFlag (blockOf b) (r .s)
+    first-is = d (blockOf b) (block-states b ∙ sym (a .laid .states-are))
+
+    pub first-range : (t .states ≤ 64) × (t .sets ≤ 8) × InRange (t .states) (t .sets) first
+    first-range = (
+      a .laid .states-to,
+      omega (arith, a .laid .sets-to),
+      rw (a .laid .states-are, a .laid .sets-are, first-is) (start-range b (r .s) (omega (arith, state-below, a .laid .states-are))),
+    )
+
+    first-slot : {x : ℕ} → x ≡ slotOf (t .states) (t .sets) first → x ≡ slot (blockOf b) (startOf liveFlag (blockOf b) (stateOf b p))
+    unfolding blockOf
+    first-slot q = q ∙ rw (a .laid .states-are, a .laid .sets-are, first-is, record-is)
+
+    -- its mark
+    pub mark-is : {x : ℕ} {start goal bad : Bool} → x ≡ slotOf (t .states) (t .sets) first → start ≡ blockOf b .start (r .s) → goal ≡ blockOf b .goal (r .s)
+        → BadSays r (t .sets) bad → boolByte (start && eqb p x) + 2 * boolByte goal + 64 * boolByte bad ≡ markOf b p
+    unfolding markOf isStart
+    mark-is q es eg eb =
+        let es′ = es ∙ ap (λ (r : Record). blockOf b .start (r .s)) record-is in
+        let eg′ = eg ∙ ap (λ (r : Record). blockOf b .goal (r .s)) record-is in
+        let eb′ = eb (blockOf b) (block-sets b ∙ sym (a .laid .sets-are)) ∙ ap (badOf (blockOf b)) record-is in
+        simp (byte-is-bit, es′, eg′, eb′, first-slot q)
