@@ -1,4 +1,5 @@
 pub mod File
+pub mod Tests
 pub mod Counts
 pub mod Translated
 pub mod Leads
@@ -12,4 +13,3 @@ pub mod Header
 pub mod Writing
 pub mod Laws
 pub mod Written
-pub mod Tests

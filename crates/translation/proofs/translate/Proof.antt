@@ -72,7 +72,7 @@ abbrev out₁ : tie.After-write-header → List ℕ
 out₁ c = c .write-header .last .0 ++ drop 28 (out (headed c))
 
 room : (c : tie.After-write-header) → 32 + 4 * S (headed c) + 4 * E (headed c) + S (headed c) ≤ length (out (headed c))
-room c = c .before .before .if1 .left
+room c = omega (arith, c .before .before .if1 .left)
 
 is₁ : (c : tie.After-write-header) → out₁ c ≡ placed 0 (header (headed c)) (out (headed c))
 is₁ c = let d = headed c in header-there (counted d) (out d) (room c) (c .write-header .ensures)
