@@ -1,7 +1,8 @@
--- What quoting a table answers. Document 01, "Quote sheet". Definitions, then two laws. Assumes nothing.
-use mathlib.Core.Path.{_≡_}
+-- What quoting a table answers. Document 01, "Quote sheet". Definitions, then laws. Assumes nothing.
+use mathlib.Core.Path.{_≡_, refl}
 use mathlib.Core.List.{List, [], _∷_}
 use Prim.Native.Nat.{ℕ}
+use lib.ListN.{getD}
 use Rattle.order.specs.Settled.{settled}
 use Rattle.recorder.specs.Slots.{slotCount}
 use Rattle.table.specs.Open.{openOf}
@@ -44,6 +45,15 @@ quoteOf b = record { answer = openOf b; sheet = sheetFor b (openOf b) }
 pub quote-is : (b : List ℕ) (o : Opened) → o ≡ openOf b → (s : Sheet) → s ≡ sheetFor b o → record { answer = o; sheet = s } ≡ quoteOf b
 unfolding quoteOf
 quote-is b o e s q = cc
+
+-- the sheet has four numbers of members
+pub four-members : (b : List ℕ) → let ms = quoteOf b .sheet .members in (getD ms 0 0 ∷ getD ms 1 0 ∷ getD ms 2 0 ∷ getD ms 3 0 ∷ []) ≡ ms
+unfolding quoteOf sheetOf
+four-members b = go (openOf b)
+  where
+    go : (o : Opened) → let ms = sheetFor b o .members in (getD ms 0 0 ∷ getD ms 1 0 ∷ getD ms 2 0 ∷ getD ms 3 0 ∷ []) ≡ ms
+    go (Accepted t) = refl
+    go (Refused why) = refl
 
 -- what `quote` says settles its answer
 pub quote-settled : (b : List ℕ) (x y : Quoted) → x ≡ quoteOf b → y ≡ quoteOf b → x ≡ y

@@ -1,0 +1,36 @@
+-- What the two exported jobs with lent buffers say, and that each statement settles number, words and buffers. Document 01, "Strength of the
+-- statements". Assumes nothing.
+use mathlib.Core.Path.{_≡_, sym, ap, _∙_}
+use mathlib.Core.List.{List}
+use Prim.Native.Nat.{ℕ}
+use Rattle.search.specs.Searched.{SearchSays}
+use Rattle.search.specs.Laws.{search-unique}
+use Rattle.search.specs.declared.Answer.{Answer as Searched}
+use Rattle.translation.specs.Translated.{TranslateSays}
+use Rattle.translation.specs.Laws.{translate-unique}
+use Rattle.translation.specs.declared.Answer.{Answer as Translated}
+use Rattle.lasso.specs.Words.{searchNumber, searchWords, translateNumber, translateWords}
+
+-- the number and the words are those of an answer that the search may give
+abbrev pub SearchSaid : List ℕ → List ℕ → List ℕ → ℕ → List ℕ → List ℕ → List ℕ → Type 0
+SearchSaid b work report number words work′ report′ =
+    (a : Searched) × SearchSays b work report a work′ report′ × ((number ≡ searchNumber a) × (words ≡ searchWords a))
+
+-- the number and the words are those of an answer that the translation may give
+abbrev pub TranslateSaid : List ℕ → List ℕ → ℕ → List ℕ → List ℕ → Type 0
+TranslateSaid b out number words out′ =
+    (a : Translated) × TranslateSays b out a out′ × ((number ≡ translateNumber a) × (words ≡ translateWords a))
+
+-- ---- two results that meet a statement are equal
+
+pub search-said-unique : (b work report : List ℕ) (x x′ : ℕ) (a a′ w w′ r r′ : List ℕ)
+    → SearchSaid b work report x a w r → SearchSaid b work report x′ a′ w′ r′ → (x ≡ x′) × (a ≡ a′) × (w ≡ w′) × (r ≡ r′)
+search-said-unique b work report x x′ a a′ w w′ r r′ (f, s, (p, q)) (f′, s′, (p′, q′)) =
+    let (e, u, v) = search-unique b work report f f′ w w′ r r′ s s′ in
+    (p ∙ ap searchNumber e ∙ sym p′, q ∙ ap searchWords e ∙ sym q′, u, v)
+
+pub translate-said-unique : (b out : List ℕ) (x x′ : ℕ) (a a′ w w′ : List ℕ)
+    → TranslateSaid b out x a w → TranslateSaid b out x′ a′ w′ → (x ≡ x′) × (a ≡ a′) × (w ≡ w′)
+translate-said-unique b out x x′ a a′ w w′ (f, s, (p, q)) (f′, s′, (p′, q′)) =
+    let (e, u) = translate-unique b out f f′ w w′ s s′ in
+    (p ∙ ap translateNumber e ∙ sym p′, q ∙ ap translateWords e ∙ sym q′, u)

@@ -1,0 +1,5 @@
+pub mod Text
+pub mod Decimal
+pub mod Puts
+pub mod Says
+pub mod Laws

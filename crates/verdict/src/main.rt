@@ -1,0 +1,30 @@
+// The program verdict: reads a table from standard input and prints its quote and its least lasso. Document 01, the end of "Tables by hand". It only
+// reads and writes; the text is made by lines::verdict.
+use input::Read;
+
+fn run(
+    table: &mut [u8; 4449],
+    work: &mut [u32; 16384],
+    report: &mut [u32; 8192],
+    out: &mut [u8; 196608],
+) {
+    let read = input::read_table(table);
+    let Read::Bytes(n) = read else {
+        os::fail(b"verdict: standard input");
+        return;
+    };
+    let bytes: &[u8] = table;
+    let end = lines::verdict(&bytes[..n], work, report, out);
+    let text: &[u8] = out;
+    if !io::write_all(libc::STDOUT_FILENO, &text[..end]) {
+        os::fail(b"verdict: standard output");
+    }
+}
+
+fn main() {
+    let mut table = [0u8; 4449];
+    let mut work = [0u32; 16384];
+    let mut report = [0u32; 8192];
+    let mut out = [0u8; 196608];
+    run(&mut table, &mut work, &mut report, &mut out);
+}
