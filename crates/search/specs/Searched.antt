@@ -8,10 +8,8 @@ use lib.Dec.{ltb}
 use lib.ListN.{length, drop}
 use Rattle.recorder.specs.Block.{Block}
 use Rattle.recorder.specs.Lasso.{LeastLasso, NoLasso}
-use Rattle.table.specs.Open.{given, firstGiven, openOf}
+use Rattle.table.specs.Open.{given, refusalFor, openOf}
 use Rattle.table.specs.BlockOf.{blockOf}
-use Rattle.table.specs.declared.Opened.{Opened}
-use Rattle.table.specs.declared.Opened.the-variants.{Accepted, Refused as TableRefused}
 use Rattle.table.specs.declared.refusal.Refusal.{Refusal}
 use Rattle.table.specs.declared.refusal.Refusal.the-variants.{ShortWorkspace, ShortReport}
 use Rattle.table.specs.Recording.{slotsOf}
@@ -23,13 +21,8 @@ use Rattle.search.specs.declared.Answer.the-variants.{Lasso, Holds, Refu
 unfoldable pub searchLines : ℕ → List ℕ → List ℕ → List (Option Refusal)
 searchLines S work report = given (ltb (length work) (2 * S)) ShortWorkspace ∷ given (ltb (length report) S) ShortReport ∷ []
 
--- a refused table gives its refusal; an accepted one the first of these lines that is given, if any
-abbrev pub refusedFor : Opened → ℕ → List ℕ → List ℕ → Option Refusal
-refusedFor (TableRefused why) S work report = some why
-refusedFor (Accepted t) S work report = firstGiven (searchLines S work report)
-
 unfoldable pub refusalOf : List ℕ → List ℕ → List ℕ → Option Refusal
-refusalOf b work report = refusedFor (openOf b) (slotsOf b) work report
+refusalOf b work report = refusalFor (openOf b) (searchLines (slotsOf b) work report)
 
 -- Of a block: a lasso is its least lasso s0..sk, and the report's first k + 1 words are its states and the rest unchanged. Holds means that it has
 -- no lasso of any length, and the report is unchanged.

@@ -9,10 +9,8 @@ use Rattle.recorder.specs.Block.{Block}
 use Rattle.recorder.specs.Flag.{liveFlag}
 use Rattle.recorder.specs.Recorder.{stepOf}
 use Rattle.recorder.specs.declared.Record.{Record}
-use Rattle.table.specs.Open.{given, firstGiven, openOf}
+use Rattle.table.specs.Open.{given, refusalFor, openOf}
 use Rattle.table.specs.BlockOf.{blockOf}
-use Rattle.table.specs.declared.Opened.{Opened}
-use Rattle.table.specs.declared.Opened.the-variants.{Accepted, Refused as TableRefused}
 use Rattle.table.specs.declared.refusal.Refusal.{Refusal}
 use Rattle.table.specs.declared.refusal.Refusal.the-variants.{WrongRecord, NoEdge}
 use Rattle.stepping.specs.declared.Stepped.{Stepped}
@@ -31,11 +29,6 @@ abbrev pub movedTo : Record → Option Refusal → Stepped
 movedTo r′ none = Moved r′
 movedTo r′ (some why) = Refused why
 
--- a refused table gives its refusal; in the block B of an accepted one, the first line that is given, or else the step of the rules
-abbrev pub steppedFor : Opened → Block → Record → ℕ → Bool → Stepped
-steppedFor (TableRefused why) B r s′ wish = Refused why
-steppedFor (Accepted t) B r s′ wish = movedTo (stepOf liveFlag B r s′ wish) (firstGiven (stepLines B r s′))
-
 -- what moving the record r to s′ over the bytes b answers
 unfoldable pub steppedOf : List ℕ → Record → ℕ → Bool → Stepped
-steppedOf b r s′ wish = steppedFor (openOf b) (blockOf b) r s′ wish
+steppedOf b r s′ wish = movedTo (stepOf liveFlag (blockOf b) r s′ wish) (refusalFor (openOf b) (stepLines (blockOf b) r s′))

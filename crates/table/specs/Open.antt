@@ -82,6 +82,11 @@ firstGiven [] = none
 firstGiven (none ∷ rs) = firstGiven rs
 firstGiven (some r ∷ rs) = some r
 
+-- what a job over the bytes refuses: a table that is not accepted gets its refusal, any other the first of the job's own lines that is given, if any
+abbrev pub refusalFor : Opened → List (Option Refusal) → Option Refusal
+refusalFor (Refused why) lines = some why
+refusalFor (Accepted t) lines = firstGiven lines
+
 abbrev pub answerOf : List ℕ → Option Refusal → Opened
 answerOf b none = Accepted (tableOf b)
 answerOf b (some r) = Refused r

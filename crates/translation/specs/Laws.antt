@@ -21,7 +21,7 @@ use Rattle.table.specs.Recording.{slotsOf}
 use Rattle.translation.specs.File.{headerOf, listed, startOfRow, targetsTo, markOf, fileOf}
 use Rattle.translation.specs.Counts.{length-little, length-listed, all-targets, length-file}
 use Rattle.translation.specs.Placed.{placed, length-placed, part-length, part-on}
-use Rattle.translation.specs.Translated.{sizeOf, refusalOf, TranslateFor, TranslateSays}
+use Rattle.translation.specs.Translated.{sizeOf, translateLines, refusalOf, TranslateFor, TranslateSays}
 use Rattle.translation.specs.declared.Answer.{Answer}
 use Rattle.translation.specs.declared.Answer.the-variants.{Written, Refused}
 
@@ -38,12 +38,12 @@ module _ (b out : List ℕ) where
 
   module _ (t : Table) (o : openOf b ≡ Accepted t) where
     pub short-output : length out < sizeOf b → TranslateSays b out (Refused ShortOutput) out
-    unfolding refusalOf
+    unfolding refusalOf translateLines
     short-output h = refused-says ShortOutput (rw (o, lt-ltb (length out) (sizeOf b) h))
 
     pub translated : sizeOf b ≤ length out → (size : ℕ) → size ≡ sizeOf b → (out′ : List ℕ) → out′ ≡ placed 0 (fileOf b) out → WellFormed b
         → TranslateSays b out (Written size) out′
-    unfolding TranslateSays refusalOf placed
+    unfolding TranslateSays refusalOf translateLines placed
     translated h size e out′ d f =
         let l : 0 + length (fileOf b) ≡ sizeOf b = omega (arith, length-file b f) in
         rw (o, le-ltb (length out) (sizeOf b) h) (ap Written e, d ∙ ap (λ (k : ℕ). fileOf b ++ drop k out) l)

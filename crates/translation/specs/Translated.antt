@@ -7,10 +7,8 @@ use Prim.Native.Nat.{ℕ}
 use lib.Dec.{ltb}
 use lib.ListN.{length, drop}
 use Rattle.table.specs.Layout.{statesOf, edgesOf, setsOf}
-use Rattle.table.specs.Open.{given, firstGiven, openOf}
+use Rattle.table.specs.Open.{given, refusalFor, openOf}
 use Rattle.table.specs.Recording.{slotsOf}
-use Rattle.table.specs.declared.Opened.{Opened}
-use Rattle.table.specs.declared.Opened.the-variants.{Accepted, Refused as TableRefused}
 use Rattle.table.specs.declared.refusal.Refusal.{Refusal}
 use Rattle.table.specs.declared.refusal.Refusal.the-variants.{ShortOutput}
 use Rattle.quote.specs.Sizes.{edgeCount, translatedLength}
@@ -22,13 +20,12 @@ use Rattle.translation.specs.declared.Answer.the-variants.{Written, Refu
 abbrev pub sizeOf : List ℕ → ℕ
 sizeOf b = translatedLength (slotsOf b) (edgeCount (statesOf b) (edgesOf b) (setsOf b))
 
--- a refused table gives its refusal; an accepted one line 11 where the output is shorter than that
-abbrev pub refusedFor : Opened → ℕ → List ℕ → Option Refusal
-refusedFor (TableRefused why) size out = some why
-refusedFor (Accepted t) size out = firstGiven (given (ltb (length out) size) ShortOutput ∷ [])
+-- line 11: an output shorter than that
+unfoldable pub translateLines : ℕ → List ℕ → List (Option Refusal)
+translateLines size out = given (ltb (length out) size) ShortOutput ∷ []
 
 unfoldable pub refusalOf : List ℕ → List ℕ → Option Refusal
-refusalOf b out = refusedFor (openOf b) (sizeOf b) out
+refusalOf b out = refusalFor (openOf b) (translateLines (sizeOf b) out)
 
 -- A refused translation changes nothing. Any other writes the translated table over the first bytes of the output, as many as it has, and the rest
 -- stays; the answer is that number.

@@ -20,7 +20,7 @@ use Rattle.translation.specs.File.{fileOf}
 use Rattle.translation.specs.Counts.{length-file}
 use Rattle.translation.specs.Placed.{placed}
 use Rattle.translation.specs.Demand3.{Translates, translates}
-use Rattle.translation.specs.Translated.{sizeOf, refusalOf, TranslateFor, TranslateSays}
+use Rattle.translation.specs.Translated.{sizeOf, translateLines, refusalOf, TranslateFor, TranslateSays}
 use Rattle.translation.specs.declared.Answer.the-variants.{Written, Refused}
 
 -- a refusal writes nothing
@@ -43,7 +43,7 @@ module _ (b out : List ℕ) (size : ℕ) (out′ : List ℕ) where
     pub has : out′ ≡ placed 0 (fileOf b) out
 
   pub written-says : TranslateSays b out (Written size) out′ → WrittenSays
-  unfolding TranslateSays refusalOf placed
+  unfolding TranslateSays refusalOf translateLines placed
   written-says = go (openOf b) refl
     where
       lines : WellFormed b → (short : Bool) → ltb (length out) (sizeOf b) ≡ short → refusalOf b out ≡ firstGiven (given short ShortOutput ∷ [])
