@@ -2,13 +2,12 @@
 use super::pattern;
 use super::room::over;
 use super::show;
-use super::tables;
 
 // Three searches in the same buffers. The second finds no lasso, and leaves the report of the first.
 fn one_after_another() {
-    let b = tables::B;
-    let i = tables::I;
-    let j = tables::J;
+    let b = samples::B;
+    let i = samples::I;
+    let j = samples::J;
     let mut work = [0u32; 200];
     let mut report = [0u32; 64];
     let p = pattern::rising();
@@ -21,9 +20,9 @@ fn one_after_another() {
 
 // Each search needs more words than the one before it.
 fn longer_each_time() {
-    let c = tables::C;
-    let e = tables::E;
-    let g = tables::G;
+    let c = samples::C;
+    let e = samples::E;
+    let g = samples::G;
     let mut work = [0u32; 100];
     let mut report = [0u32; 50];
     let p = pattern::rising();
@@ -36,17 +35,17 @@ fn longer_each_time() {
 
 // The buffers have one word throughout.
 fn j_over(name: &[u8], word: u32) {
-    let j = tables::J;
+    let j = samples::J;
     over(name, &j, 130, 70, word);
 }
 
 fn i_over(name: &[u8], word: u32) {
-    let i = tables::I;
+    let i = samples::I;
     over(name, &i, 90, 50, word);
 }
 
 fn b_over(name: &[u8], word: u32) {
-    let b = tables::B;
+    let b = samples::B;
     over(name, &b, 90, 50, word);
 }
 

@@ -1,24 +1,23 @@
 // Lines 9 and 10 of document 01, "Refusal list", and what an accepted search leaves of buffers that are longer than it needs.
 use super::room::case;
-use super::tables;
 
 fn of_a(w: usize, r: usize) {
-    let a = tables::A;
+    let a = samples::A;
     case(b"a", &a, w, r);
 }
 
 fn of_c(w: usize, r: usize) {
-    let c = tables::C;
+    let c = samples::C;
     case(b"c", &c, w, r);
 }
 
 fn of_g(w: usize, r: usize) {
-    let g = tables::G;
+    let g = samples::G;
     case(b"g", &g, w, r);
 }
 
 fn of_l(w: usize, r: usize) {
-    let l = tables::L;
+    let l = samples::L;
     case(b"l", &l, w, r);
 }
 
@@ -45,9 +44,9 @@ fn short_for_others() {
 
 // Past the first 2S workspace words, and past the run in the report, nothing changes.
 fn long_with_a_lasso() {
-    let e = tables::E;
-    let i = tables::I;
-    let j = tables::J;
+    let e = samples::E;
+    let i = samples::I;
+    let j = samples::J;
     of_a(81, 41);
     of_a(100, 64);
     case(b"e", &e, 60, 25);
@@ -57,8 +56,8 @@ fn long_with_a_lasso() {
 
 // With "holds" the whole report stays.
 fn long_with_none() {
-    let b = tables::B;
-    let f = tables::F;
+    let b = samples::B;
+    let f = samples::F;
     case(b"b", &b, 100, 64);
     case(b"f", &f, 60, 25);
     of_l(200, 100);

@@ -9,7 +9,6 @@ mod ring;
 mod room;
 mod show;
 mod slips;
-mod tables;
 
 fn main() {
     hand::run();

@@ -1,18 +1,17 @@
 // Refused tables: lines 1 to 8 of document 01, "Refusal list", come before lines 9 and 10, and the buffers stay. The places in the bytes are
 // those of "The table file": in table a the row starts stand from 28 on, the targets from 48 on, the marks from 80 on.
 use super::room::case;
-use super::tables;
 
 // The first 27 bytes of table a, and all but the last.
 fn cut(w: usize, r: usize) {
-    let a = tables::A;
+    let a = samples::A;
     case(b"27 bytes of a", &a[..27], w, r);
     case(b"83 bytes of a", &a[..83], w, r);
 }
 
 // Table a, and the byte at `at` is x.
 fn with(name: &[u8], at: usize, x: u8, w: usize, r: usize) {
-    let mut a = tables::A;
+    let mut a = samples::A;
     if at < 84 {
         a[at] = x;
         case(name, &a, w, r);
@@ -21,7 +20,7 @@ fn with(name: &[u8], at: usize, x: u8, w: usize, r: usize) {
 
 // Table b, where row 0 takes the target of row 1.
 fn empty_row(w: usize, r: usize) {
-    let mut b = tables::B;
+    let mut b = samples::B;
     b[32] = 2;
     case(b"row 1 is empty", &b, w, r);
 }

@@ -1,13 +1,12 @@
 // More tables for document 01, "Lasso and choice" and "Plausible slips".
 use super::room::case;
-use super::tables;
 
 // The goal rules a state out, be it a start, on the way or at the end.
 fn goals() {
-    let start = tables::GOAL_AT_THE_START;
-    let one = tables::GOAL_AT_ONE_START;
-    let way = tables::GOAL_ON_THE_WAY;
-    let barred = tables::GOAL_CANNOT_BE_PASSED;
+    let start = samples::GOAL_AT_THE_START;
+    let one = samples::GOAL_AT_ONE_START;
+    let way = samples::GOAL_ON_THE_WAY;
+    let barred = samples::GOAL_CANNOT_BE_PASSED;
     case(b"goal at the start", &start, 24, 12);
     case(b"goal at one of two starts", &one, 24, 12);
     case(b"goal on the shorter way", &way, 120, 60);
@@ -16,10 +15,10 @@ fn goals() {
 
 // Of two starts, and of two ways, the least; a shorter lasso from a later start is taken first.
 fn choices() {
-    let starts = tables::TWO_STARTS;
-    let later = tables::LATER_START;
-    let ways = tables::TWO_WAYS;
-    let tail = tables::TAIL;
+    let starts = samples::TWO_STARTS;
+    let later = samples::LATER_START;
+    let ways = samples::TWO_WAYS;
+    let tail = samples::TAIL;
     case(b"two starts", &starts, 48, 24);
     case(b"shorter from the later start", &later, 48, 24);
     case(b"two ways", &ways, 80, 40);
@@ -28,10 +27,10 @@ fn choices() {
 
 // Four sets: the loop needs a member of each, and a member before it does not count.
 fn sets() {
-    let ring = tables::RING_OF_SETS;
-    let all = tables::ALL_IN_ONE;
-    let tail = tables::SET_ON_THE_TAIL;
-    let petals = tables::PETALS;
+    let ring = samples::RING_OF_SETS;
+    let all = samples::ALL_IN_ONE;
+    let tail = samples::SET_ON_THE_TAIL;
+    let petals = samples::PETALS;
     case(b"ring of four sets", &ring, 1280, 640);
     case(b"one state in four sets", &all, 128, 64);
     case(b"one of four sets before the loop", &tail, 384, 192);

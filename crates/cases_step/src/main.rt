@@ -1,14 +1,13 @@
 // Cases of a step, one line each, held to the file `stdout`. Document 01, "The recorder", lines 12 and 13 of "Refusal list", and those of
 // "Plausible slips" that a single step can show.
 mod show;
-mod tables;
 
 use show::at;
 use show::case;
 
 // The bits of the state that is saved count on the saving step; a wish where a state is saved already changes nothing.
 fn saving() {
-    let e = tables::E;
+    let e = samples::E;
     case(b"e save at 1", &e, at(1, 2, false, 0), 1, true);
     case(b"e no wish at 1", &e, at(1, 2, false, 0), 1, false);
     case(b"e save at 0", &e, at(0, 2, false, 0), 1, true);
@@ -19,8 +18,8 @@ fn saving() {
 
 // No bits are set before the save, and all the bits of each state from it on.
 fn bits() {
-    let f = tables::F;
-    let g = tables::G;
+    let f = samples::F;
+    let g = samples::G;
     case(
         b"f no bits before the save",
         &f,
@@ -37,9 +36,9 @@ fn bits() {
 
 // The goal is that of the state that is left; a flag that is set stays set.
 fn goals() {
-    let a = tables::A;
-    let d = tables::D;
-    let s = tables::GOAL_AT_THE_START;
+    let a = samples::A;
+    let d = samples::D;
+    let s = samples::GOAL_AT_THE_START;
     case(b"a into the goal", &a, at(2, 4, false, 0), 3, false);
     case(b"a out of the goal", &a, at(3, 4, false, 0), 0, false);
     case(b"a stays live", &a, at(0, 4, true, 0), 1, false);
@@ -57,7 +56,7 @@ fn goals() {
 
 // Line 12, one wrong part at a time and two, at the limits and far above.
 fn wrong_records() {
-    let e = tables::E;
+    let e = samples::E;
     let far = 18446744073709551615;
     case(b"e all parts at the limit", &e, at(1, 2, true, 1), 1, false);
     case(b"e s = n", &e, at(2, 2, false, 0), 1, false);
@@ -71,8 +70,8 @@ fn wrong_records() {
 
 // 2^m by the table's own m.
 fn wrong_bits() {
-    let a = tables::A;
-    let g = tables::G;
+    let a = samples::A;
+    let g = samples::G;
     case(b"a v = 1, no set", &a, at(0, 4, false, 1), 0, false);
     case(b"g v = 3", &g, at(0, 2, false, 3), 1, false);
     case(b"g v = 4", &g, at(0, 2, false, 4), 1, false);
@@ -80,8 +79,8 @@ fn wrong_bits() {
 
 // Line 13, and line 12 before it where both are given.
 fn no_edge() {
-    let e = tables::E;
-    let f = tables::F;
+    let e = samples::E;
+    let f = samples::F;
     case(b"e 1 to 0", &e, at(1, 2, false, 0), 0, true);
     case(b"e 0 to 1", &e, at(0, 2, false, 0), 1, false);
     case(b"f 0 to 0", &f, at(0, 2, false, 0), 0, false);
@@ -91,9 +90,9 @@ fn no_edge() {
 
 // A refused table gives its own line, before 12 and 13.
 fn refused_tables() {
-    let e = tables::E;
-    let many = tables::TOO_MANY;
-    let mark = tables::WRONG_MARK;
+    let e = samples::E;
+    let many = samples::TOO_MANY;
+    let mark = samples::WRONG_MARK;
     case(b"27 bytes of e", &e[..27], at(1, 2, false, 0), 1, true);
     case(b"n 65", &many, at(1, 2, false, 0), 1, true);
     case(b"state 1 in set 1 of 1", &mark, at(1, 2, false, 0), 1, true);

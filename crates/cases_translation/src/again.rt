@@ -2,24 +2,23 @@
 // refused one changes none.
 use super::pattern;
 use super::show;
-use super::tables;
 
 // Table a with n 65 is refused.
 fn refused(out: &mut [u8]) {
-    let mut a = tables::A;
+    let mut a = samples::A;
     a[4] = 65;
     show::whole(b"n 65 over both", &a, out);
 }
 
 fn c_over_j(out: &mut [u8]) {
-    let j = tables::J;
-    let c = tables::C;
+    let j = samples::J;
+    let c = samples::C;
     show::kept(b"j first", &j, out, false);
     show::whole(b"c over j", &c, out);
 }
 
 fn a_over_all(out: &mut [u8]) {
-    let a = tables::A;
+    let a = samples::A;
     show::whole(b"a over all", &a, out);
 }
 

@@ -1,12 +1,11 @@
 // The twelve tables of document 01, "Tables by hand", each with an output of exactly its size. Each line has the whole output.
 use super::room::whole;
-use super::tables;
 
 fn first_four() {
-    let a = tables::A;
-    let b = tables::B;
-    let c = tables::C;
-    let d = tables::D;
+    let a = samples::A;
+    let b = samples::B;
+    let c = samples::C;
+    let d = samples::D;
     whole(b"a", &a, 616);
     whole(b"b", &b, 424);
     whole(b"c", &c, 76);
@@ -14,10 +13,10 @@ fn first_four() {
 }
 
 fn next_four() {
-    let e = tables::E;
-    let f = tables::F;
-    let g = tables::G;
-    let h = tables::H;
+    let e = samples::E;
+    let f = samples::F;
+    let g = samples::G;
+    let h = samples::H;
     whole(b"e", &e, 344);
     whole(b"f", &f, 280);
     whole(b"g", &g, 528);
@@ -25,10 +24,10 @@ fn next_four() {
 }
 
 fn last_four() {
-    let i = tables::I;
-    let j = tables::J;
-    let k = tables::K;
-    let l = tables::L;
+    let i = samples::I;
+    let j = samples::J;
+    let k = samples::K;
+    let l = samples::L;
     whole(b"i", &i, 472);
     whole(b"j", &j, 1004);
     whole(b"k", &k, 76);

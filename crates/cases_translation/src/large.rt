@@ -1,13 +1,12 @@
 // Large translations. Document 01, "The recorder". The lines have sums: the sum of all bytes, and the sum of the sums up to each.
-use super::ring::put_goal;
-use super::ring::put_ring;
-use super::ring::put_sets;
 use super::room::summed;
-use super::tables;
+use samples::put_goal;
+use samples::put_ring;
+use samples::put_sets;
 
 // 64,256 bytes: the 65,536 of the program `translate` are enough.
 fn nine(n: usize) {
-    let nine = tables::NINE;
+    let nine = samples::NINE;
     summed(b"nine states, all edges", &nine, n);
 }
 

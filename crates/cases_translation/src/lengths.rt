@@ -1,24 +1,23 @@
 // Line 11 of document 01, "Refusal list", and what a translation leaves of an output that is longer than it needs.
 use super::room::case;
-use super::tables;
 
 fn of_a(n: usize) {
-    let a = tables::A;
+    let a = samples::A;
     case(b"a", &a, n);
 }
 
 fn of_c(n: usize) {
-    let c = tables::C;
+    let c = samples::C;
     case(b"c", &c, n);
 }
 
 fn of_j(n: usize) {
-    let j = tables::J;
+    let j = samples::J;
     case(b"j", &j, n);
 }
 
 fn of_l(n: usize) {
-    let l = tables::L;
+    let l = samples::L;
     case(b"l", &l, n);
 }
 

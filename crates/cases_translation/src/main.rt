@@ -5,11 +5,9 @@ mod large;
 mod lengths;
 mod pattern;
 mod refused;
-mod ring;
 mod room;
 mod sets;
 mod show;
-mod tables;
 
 fn main() {
     hand::run();

@@ -1,30 +1,29 @@
 // More tables for document 01, "The recorder": two starts of which one has the goal, and all four sets. The lines of the latter have sums.
 use super::room::summed;
 use super::room::whole;
-use super::tables;
 
 fn two_starts() {
-    let one = tables::GOAL_AT_ONE_START;
+    let one = samples::GOAL_AT_ONE_START;
     whole(b"goal at one of two starts", &one, 188);
 }
 
 fn all_in_one(n: usize) {
-    let all = tables::ALL_IN_ONE;
+    let all = samples::ALL_IN_ONE;
     summed(b"one state in four sets", &all, n);
 }
 
 fn ring_of_sets(n: usize) {
-    let ring = tables::RING_OF_SETS;
+    let ring = samples::RING_OF_SETS;
     summed(b"ring of four sets", &ring, n);
 }
 
 fn set_on_the_tail(n: usize) {
-    let tail = tables::SET_ON_THE_TAIL;
+    let tail = samples::SET_ON_THE_TAIL;
     summed(b"one of four sets before the loop", &tail, n);
 }
 
 fn petals(n: usize) {
-    let petals = tables::PETALS;
+    let petals = samples::PETALS;
     summed(b"four sets, back to 0 between them", &petals, n);
 }
 

@@ -1,12 +1,12 @@
 -- A lent buffer whose first k words are set to 0, and the rest unchanged. Document 01, "Refusal list": "After an accepted search the first 2S
 -- workspace words are zero and the rest unchanged". The definition and its laws, then a law of a buffer that is written downwards.
 -- Assumes nothing.
-use mathlib.Core.Path.{_≡_, ap, _∙_}
+use mathlib.Core.Path.{_≡_, sym, ap, _∙_}
 use mathlib.Core.List.{List, _∷_, _++_}
-use Prim.Native.Nat.{ℕ, zero, suc, _-_, _≤_, _<_}
+use Prim.Native.Nat.{ℕ, zero, suc, _+_, _-_, _≤_, _<_}
 use native.Mathlib.Omega.{arith}
 use lib.ListN.{length, getD, set, take, drop, replicate, length-append, length-drop, length-replicate, getD-replicate, List·getD-append}
-use lib.Seq.{drop-at, take-suc, append-snoc, set-at, length-take-le}
+use lib.Seq.{drop-at, drop-drop, take-suc, append-snoc, set-at, length-take-le}
 
 abbrev pub cleared : ℕ → List ℕ → List ℕ
 cleared k w = replicate k 0 ++ drop k w
@@ -22,6 +22,12 @@ cleared-at k w i h = List·getD-append (replicate k 0) (drop k w) 0 i (simp leng
 -- the rest is unchanged
 pub cleared-rest : (k : ℕ) (w : List ℕ) → drop k (cleared k w) ≡ drop k w
 cleared-rest k w = drop-at (replicate k 0) (drop k w) k (length-replicate k 0)
+
+-- and so is what lies further on
+pub cleared-past : (k j : ℕ) (w : List ℕ) → k ≤ j → drop j (cleared k w) ≡ drop j w
+cleared-past k j w h =
+    let e : k + (j - k) ≡ j = omega arith in
+    rw (← e) (sym (drop-drop (j - k) k (cleared k w)) ∙ ap (drop (j - k)) (cleared-rest k w) ∙ drop-drop (j - k) k w)
 
 -- what was written into the first k words leaves no trace
 pub cleared-again : (k : ℕ) (w w′ : List ℕ) → drop k w′ ≡ drop k w → cleared k w′ ≡ cleared k w

@@ -19,7 +19,7 @@ use Rattle.table.specs.LaidOut.{LaidOut}
 use Rattle.table.specs.Sound.{sound}
 use Rattle.table.specs.declared.Table.{Table}
 use Rattle.table.specs.Recording.{slotsOf, graphOf, block-states, block-sets}
-use Rattle.search.specs.Buffers.{cleared, length-cleared, cleared-at, cleared-rest, cleared-again}
+use Rattle.search.specs.Buffers.{cleared, length-cleared, cleared-at, cleared-past, cleared-again}
 use Rattle.search.specs.Climb.{Climbs, pathBy, labelOf, kept-climbs, slot-path}
 use Rattle.search.specs.Report.{halves, odds, Reports, lasso-reported}
 use Rattle.search.specs.Scan.{ScanAsks, Stopped, ScanSays}
@@ -37,14 +37,14 @@ pub record FindAsks (b : List ℕ) (t : Table) (S : ℕ) (work report : List ℕ
   pub work-room : 2 * S ≤ length work
   pub report-room : S ≤ length report
 
--- the starts can be queued once the workspace is cleared
-pub starts-asked : {b : List ℕ} {t : Table} {S : ℕ} {work report : List ℕ} (v : List ℕ) → FindAsks b t S work report → v ≡ cleared (2 * S) work → StartsAsk b t S v
+-- the starts can be queued once the origins are cleared
+pub starts-asked : {b : List ℕ} {t : Table} {S : ℕ} {work report : List ℕ} (v : List ℕ) → FindAsks b t S work report → v ≡ cleared S work → StartsAsk b t S v
 starts-asked {S} {work} v a e = rw e (record {
   formed = a .formed;
   laid = a .laid;
   slots-are = a .slots-are;
-  room = omega (arith, length-cleared (2 * S) work (a .work-room), a .work-room);
-  fresh = λ x h. cleared-at (2 * S) work x (omega arith);
+  room = let l = a .work-room in omega (arith, length-cleared S work (omega arith));
+  fresh = λ x h. cleared-at S work x h;
 })
 
 -- and then scanned
@@ -52,9 +52,9 @@ pub scan-asked : {b : List ℕ} {t : Table} {S : ℕ} {v : List ℕ} {r : ℕ} {
 scan-asked a s = record { formed = a .formed; laid = a .laid; slots-are = a .slots-are; kept = s .kept; between = s .between }
 
 -- the words past the first 2S stay all the while
-pub rest-stays : {b : List ℕ} {S : ℕ} (work v u w : List ℕ) {r : ℕ} {seen : Seen} → v ≡ cleared (2 * S) work → StartsSay b S v r u → ScanSays b S u seen w
+pub rest-stays : {b : List ℕ} {S : ℕ} (work v u w : List ℕ) {r : ℕ} {seen : Seen} → v ≡ cleared S work → StartsSay b S v r u → ScanSays b S u seen w
     → drop (2 * S) w ≡ drop (2 * S) work
-rest-stays {S} work v u w e s k = k .same .rest ∙ s .same .rest ∙ ap (drop (2 * S)) e ∙ cleared-rest (2 * S) work
+rest-stays {S} work v u w e s k = k .same .rest ∙ s .same .rest ∙ ap (drop (2 * S)) e ∙ cleared-past S (2 * S) work (omega arith)
 
 pub seen-as : {b : List ℕ} {S : ℕ} {w w′ : List ℕ} {r r′ : Seen} → r ≡ r′ → ScanSays b S w r w′ → ScanSays b S w r′ w′
 seen-as e k = rw (← e) k

@@ -24,7 +24,8 @@ fn find(bytes: &[u8], t: Table, work: &mut [u32], report: &mut [u32], slots: usi
     requires { ⌜ FindAsks (now bytes) t slots (now work) (now report) ⌝ }
     ensures { λ a. ⌜ FindSays (now (bytes .entry)) (now (work .entry)) (now (report .entry)) a (now (work .exit)) (now (report .exit)) ⌝ }
 {
-    clear::clear(work, 2 * slots);
+    // The queue's words may hold anything: each is written before it is read.
+    clear::clear(work, slots);
     let queued = starts::queue_starts(bytes, t, work, slots);
     let seen = scan::scan(bytes, t, work, slots, queued);
     let Seen::Bad { head, slot: _ } = seen else {

@@ -60,9 +60,6 @@ le-as p h = rw p h
 length-to : (c : tie.After-path-length) → c .path-length .result ≤ clear-at (c .before .before) .before .before .before .before .before .args .slots
 length-to c = le-as (length-is c) (path-to _ _ _ _ (stopped-climbs (stopped (c .before .before))))
 
-mul-clear : tie.Need-mul-clear
-mul-clear c = search needs
-
 clear-requires : tie.Need-clear-requires
 clear-requires c κs = search needs
 
@@ -81,8 +78,8 @@ enum-known-seen c = search needs
 enum-told : tie.Need-enum-told
 enum-told c = search needs
 
-mul-clear-2 : tie.Need-mul-clear-2
-mul-clear-2 c = search needs
+mul-clear : tie.Need-mul-clear
+mul-clear c = search needs
 
 clear-requires-2 : tie.Need-clear-requires-2
 clear-requires-2 c κs = search needs
@@ -113,14 +110,14 @@ write-path-requires c κs =
       ),
     )
 
-mul-clear-3 : tie.Need-mul-clear-3
-mul-clear-3 c = let a = asks (clear-at (known-of (c .before .before .before))) in omega (arith, a .slots-are, slots-few _ (a .formed))
+mul-clear-2 : tie.Need-mul-clear-2
+mul-clear-2 c = let a = asks (clear-at (known-of (c .before .before .before))) in omega (arith, a .slots-are, slots-few _ (a .formed))
 
 clear-requires-3 : tie.Need-clear-requires-3
 clear-requires-3 c κs = search needs
 
-sub-t14 : tie.Need-sub-t14
-sub-t14 c =
+sub-t30 : tie.Need-sub-t30
+sub-t30 c =
     let w = c .before .before .before .before .before .before in
     let t = told (known-of w) in
     omega (arith, length-is (w .before .before .before), t .reports .size, t .least .is .loop .here)
@@ -146,21 +143,20 @@ pub find-spec : {M : Type 1} → statement M
 find-spec =
     tie.close
     (tie.spec
-    mul-clear
     clear-requires
     queue-starts-requires
     scan-requires
     enum-known-seen
     enum-told
-    mul-clear-2
+    mul-clear
     clear-requires-2
     same-length
     returns
     path-length-requires
     write-path-requires
-    mul-clear-3
+    mul-clear-2
     clear-requires-3
-    sub-t14
+    sub-t30
     sub-t31
     same-length-2
     same-length-3

@@ -1,9 +1,9 @@
--- `cases_search::ring::put_edges` is safe and ends: nothing has to hold from turn to turn, and the measure is the states that are left.
+-- `samples::ring::put_edges` is safe and ends: nothing has to hold from turn to turn, and the measure is the states that are left.
 -- Assumes nothing.
 use Prim.Native.Nat.{_-_}
 use native.Mathlib.Omega.{arith}
-use Rattle.cases_search.proofs.ring.put_edges.Statement.{statement}
-use Rattle.cases_search.proofs.ring.put_edges.Tie as tie
+use Rattle.samples.proofs.ring.put_edges.Statement.{statement}
+use Rattle.samples.proofs.ring.put_edges.Tie as tie
 
 abbrev Inv-loop : tie.InvT-loop
 Inv-loop ring₀ s₀ ring s = Unit {0}

@@ -24,18 +24,18 @@ fn put_edges(ring: &mut [u8; 608]) {
 }
 
 // Without sets and without a goal, over zeros.
-pub(crate) fn put_ring(ring: &mut [u8; 608]) {
+pub fn put_ring(ring: &mut [u8; 608]) {
     put_header(ring);
     put_edges(ring);
 }
 
 // Goal 63.
-pub(crate) fn put_goal(ring: &mut [u8; 608]) {
+pub fn put_goal(ring: &mut [u8; 608]) {
     ring[607] = 2;
 }
 
 // m 3, set 0 = {1, 2}, set 1 = {2}, set 2 = {62}.
-pub(crate) fn put_sets(ring: &mut [u8; 608]) {
+pub fn put_sets(ring: &mut [u8; 608]) {
     ring[12] = 3;
     ring[545] = 4;
     ring[546] = 12;
