@@ -1,12 +1,11 @@
 -- The digits that the kit's `decimal` writes are the number in decimal. Assumes nothing.
-use mathlib.Core.Path.{_≡_, refl, sym, ap, _∙_}
-use mathlib.Core.Bool.{Bool, true, false, cond}
-use mathlib.Core.List.{List, [], _∷_, _++_}
-use Prim.Native.Nat.{ℕ, zero, suc, _+_, _-_, _*_, _/_, _%_, _^_, _≤_, _<_}
+use mathlib.Core.Path.{_≡_, refl}
+use mathlib.Core.Bool.{Bool, true, false}
+use Prim.Native.Nat.{ℕ, zero, suc, _+_, _-_, _/_, _^_, _≤_, _<_}
 use native.Mathlib.Omega.{arith}
 use borrow.Author.Tests.{lt-ltb, le-ltb, leb-true, leb-false}
 use lib.Dec.{ltb, leb, lit<}
-use Rattle.io.specs.Digits.{glyph, digits, Fewest}
+use Rattle.io.specs.Digits.{digits, Fewest}
 use Rattle.lines.specs.Text.{digitsOf, decimalOf}
 
 one-at-least : (j : ℕ) → 1 ≤ 10 ^ j

@@ -1,13 +1,11 @@
 -- The lines, part by part, as the proofs cite them: what is written is the line of document 01. Then that the two statements settle what is written.
 -- Assumes nothing.
 use mathlib.Core.Path.{_≡_, refl, sym, ap, _∙_, subst}
-use mathlib.Core.Bool.{Bool, true, false, cond}
 use mathlib.Core.List.{List, [], _∷_, _++_}
 use mathlib.Core.Option.{Option, none, some}
 use Prim.Native.Nat.{ℕ, suc, _+_, _≤_, _<_}
 use native.Mathlib.Omega.{arith}
 use borrow.Author.Tests.{lt-ltb, le-ltb}
-use lib.Dec.{ltb}
 use lib.ListN.{length, take, drop, length-append}
 use lib.Seq.{length-take-le}
 use Rattle.table.specs.Refusals.{numberOf, placeOf}
@@ -25,7 +23,7 @@ use Rattle.translation.specs.Written.{written-says, refused-leaves}
 use Rattle.translation.specs.declared.Answer.{Answer as Translated}
 use Rattle.translation.specs.declared.Answer.the-variants.{Written, Refused as TranslateRefused}
 use Rattle.lines.specs.Text.{numbersOf, lineOf, boardWord, noneWord, refusedWord, lassoWord, runWord, holdsWord, boardLine, sheetLines, refusedLine, answerLines, verdictOf}
-use Rattle.lines.specs.Puts.{Puts, puts-on, puts-length}
+use Rattle.lines.specs.Puts.{Puts, puts-length}
 use Rattle.lines.specs.Says.{RunFits, VerdictSays, TranslateWrites}
 
 module _ {from to : ℕ} {w w′ : List ℕ} where

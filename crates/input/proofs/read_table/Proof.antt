@@ -1,3 +1,4 @@
+-- `input::read_table` meets its contract and ends: what came fits in the buffer after what came before, and the turns fall. Assumes nothing.
 use mathlib.Core.Path.{_≡_}
 use mathlib.Core.List.{List}
 use Prim.Native.Nat.{ℕ, _+_, _≤_}
@@ -7,9 +8,6 @@ use Rattle.input.specs.Counted.{part-fits}
 use borrow.Author.Needs.{needs}
 use Rattle.input.proofs.read_table.Statement.{statement}
 use Rattle.input.proofs.read_table.Tie as tie
-use Rattle.input.proofs.read_table.Reads as reads
-use Rattle.input.proofs.read_table.Lts as lts
-use Rattle.input.proofs.read_part.Reads as read-part-reads
 
 -- the buffer keeps its length, and what came fits
 record Reading (bytes : List ℕ) (done : ℕ) : Type 0 where
@@ -22,35 +20,27 @@ Inv-loop bytes₀ done₀ turns₀ bytes done turns = Reading bytes done
 abbrev μ-loop : tie.MeasureT-loop
 μ-loop bytes₀ done₀ turns₀ bytes done turns = turns
 
--- src/lib.rt:41:5
 loop-holds : tie.Need-loop-holds Inv-loop μ-loop
 loop-holds c = search needs
 
--- src/lib.rt:43:13
 returns : tie.Need-returns Inv-loop μ-loop
 returns c = search needs
 
--- src/lib.rt:45:9
 sub-turns : tie.Need-sub-turns Inv-loop μ-loop
 sub-turns c = search needs
 
--- src/lib.rt:46:25
 sub-read-part : tie.Need-sub-read-part Inv-loop μ-loop
 sub-read-part c = search needs
 
--- src/lib.rt:46:25
 part-read-part-start : tie.Need-part-read-part-start Inv-loop μ-loop
 part-read-part-start c = search needs
 
--- src/lib.rt:46:25
 part-read-part-end : tie.Need-part-read-part-end Inv-loop μ-loop
 part-read-part-end c = search needs
 
--- src/lib.rt:46:15
 read-part-requires : tie.Need-read-part-requires Inv-loop μ-loop
 read-part-requires c κs = search needs
 
--- src/lib.rt:47:25
 enum-known-n : tie.Need-enum-known-n Inv-loop μ-loop
 enum-known-n c = search needs
 
@@ -62,46 +52,36 @@ came c =
     let f = part-fits (a .loop .bytes) (a .loop .done) _ _ (omega (arith, a .loop .inv .upto)) (c .before .n .given .1) (c .before .before .before .before .before .read-part .ensures) in
     omega arith
 
--- src/lib.rt:47:31
 add-done : tie.Need-add-done Inv-loop μ-loop
 add-done c = record { fits = omega (arith, came c) }
 
--- src/lib.rt:41:5
 loop-less : tie.Need-loop-less Inv-loop μ-loop
 loop-less c = search needs
 
--- src/lib.rt:41:5
 loop-again : tie.Need-loop-again Inv-loop μ-loop
 loop-again c = record { full = search needs; upto = omega (arith, came c) }
 
 enum-told : tie.Need-enum-told Inv-loop μ-loop
 enum-told c = search needs
 
--- src/lib.rt:41:5
 loop-less-2 : tie.Need-loop-less-2 Inv-loop μ-loop
 loop-less-2 c = search needs
 
--- src/lib.rt:41:5
 loop-again-2 : tie.Need-loop-again-2 Inv-loop μ-loop
 loop-again-2 c = search needs
 
--- src/lib.rt:49:26
 enum-told-2 : tie.Need-enum-told-2 Inv-loop μ-loop
 enum-told-2 c = search needs
 
--- src/lib.rt:49:26
 returns-2 : tie.Need-returns-2 Inv-loop μ-loop
 returns-2 c = search needs
 
--- src/lib.rt:50:29
 enum-told-3 : tie.Need-enum-told-3 Inv-loop μ-loop
 enum-told-3 c = search needs
 
--- src/lib.rt:50:29
 returns-3 : tie.Need-returns-3 Inv-loop μ-loop
 returns-3 c = search needs
 
--- src/lib.rt:35:1
 returns-4 : tie.Need-returns-4 Inv-loop μ-loop
 returns-4 c = search needs
 

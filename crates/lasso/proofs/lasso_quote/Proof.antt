@@ -1,42 +1,30 @@
+-- `lasso::lasso_quote` meets its contract: number and place are those of opening's answer, and the sheet has four numbers of members. Assumes nothing.
 use Rattle.lasso.specs.Laws.{quote-told}
 use borrow.Author.Needs.{needs}
 use Rattle.lasso.proofs.lasso_quote.Statement.{statement}
 use Rattle.lasso.proofs.lasso_quote.Tie as tie
-use Rattle.lasso.proofs.lasso_quote.Reads as reads
-use Rattle.lasso.proofs.lasso_quote.Lts as lts
-use Rattle.lasso.proofs.number_of.Reads as number-of-reads
-use Rattle.lasso.proofs.place_of.Reads as place-of-reads
-use Rattle.quote.proofs.quote.Reads as quote-reads
 
--- src/lib.rt:60:9
 quote-requires : tie.Need-quote-requires
 quote-requires c κs = search needs
 
--- src/lib.rt:64:16
 place-of-requires : tie.Need-place-of-requires
 place-of-requires c κs = search needs
 
--- src/lib.rt:64:86
 array-read-t10 : tie.Need-array-read-t10
 array-read-t10 c = search needs
 
--- src/lib.rt:64:98
 array-read-t13 : tie.Need-array-read-t13
 array-read-t13 c = search needs
 
--- src/lib.rt:64:110
 array-read-t16 : tie.Need-array-read-t16
 array-read-t16 c = search needs
 
--- src/lib.rt:64:122
 array-read-t19 : tie.Need-array-read-t19
 array-read-t19 c = search needs
 
--- src/lib.rt:65:5
 number-of-requires : tie.Need-number-of-requires
 number-of-requires c κs = search needs
 
--- src/lib.rt:55:1
 returns : tie.Need-returns
 returns c =
     let q = c .before .before .before .before .before .quote in

@@ -1,43 +1,31 @@
+-- `lasso::lasso_step` meets its contract: the step's answer is told case by case. Assumes nothing.
 use mathlib.Core.Path.{sym, _∙_}
 use Rattle.lasso.specs.Laws.{step-moved, step-refused}
 use borrow.Author.Needs.{needs}
 use Rattle.lasso.proofs.lasso_step.Statement.{statement}
 use Rattle.lasso.proofs.lasso_step.Tie as tie
-use Rattle.lasso.proofs.lasso_step.Reads as reads
-use Rattle.lasso.proofs.lasso_step.Lts as lts
-use Rattle.stepping.proofs.step.Reads as step-reads
-use Rattle.table.proofs.refusal.Refusal.number.Reads as number-reads
-use Rattle.table.proofs.refusal.Refusal.place.Reads as place-reads
 
--- src/lib.rt:98:11
 step-requires : tie.Need-step-requires
 step-requires c κs = search needs
 
--- src/lib.rt:99:24
 enum-known-r : tie.Need-enum-known-r
 enum-known-r c = search needs
 
--- src/lib.rt:100:37
 cast-t14 : tie.Need-cast-t14
 cast-t14 c = search needs
 
--- src/lib.rt:103:26
 enum-known-why : tie.Need-enum-known-why
 enum-known-why c = search needs
 
--- src/lib.rt:104:24
 place-requires : tie.Need-place-requires
 place-requires c κs = search needs
 
--- src/lib.rt:105:13
 number-requires : tie.Need-number-requires
 number-requires c κs = search needs
 
--- src/lib.rt:93:1
 returns : tie.Need-returns
 returns c = let s = c .before .before .before .before .before in step-moved _ _ (sym (s .step .ensures) ∙ c .before .before .before .r .given .1)
 
--- src/lib.rt:93:1
 returns-2 : tie.Need-returns-2
 returns-2 c =
     let s = c .before .before .before .before .before .before in

@@ -1,55 +1,40 @@
+-- `lines::verdict` meets its contract: the table is searched and quoted, and the lines are those of both answers. Assumes nothing.
 use native.Mathlib.Omega.{arith}
 use Rattle.lines.specs.Puts.{puts-on, puts-length}
 use Rattle.lines.specs.Laws.{run-fits, puts-table-refused, puts-verdict}
 use borrow.Author.Needs.{needs}
 use Rattle.lines.proofs.verdict.Statement.{statement}
 use Rattle.lines.proofs.verdict.Tie as tie
-use Rattle.lines.proofs.verdict.Reads as reads
-use Rattle.lines.proofs.verdict.Lts as lts
-use Rattle.lines.proofs.lines.answer_lines.Reads as answer-lines-reads
-use Rattle.lines.proofs.lines.refused_line.Reads as refused-line-reads
-use Rattle.lines.proofs.lines.sheet_lines.Reads as sheet-lines-reads
-use Rattle.quote.proofs.quote.Reads as quote-reads
-use Rattle.search.proofs.search.Reads as search-reads
 
--- src/lib.rt:14:9
 search-requires : tie.Need-search-requires
 search-requires c κs = search needs
 
--- src/lib.rt:15:9
 quote-requires : tie.Need-quote-requires
 quote-requires c κs = search needs
 
--- src/lib.rt:18:25
 enum-known-opened : tie.Need-enum-known-opened
 enum-known-opened c = search needs
 
--- src/lib.rt:18:33
 refused-line-requires : tie.Need-refused-line-requires
 refused-line-requires c κs = search needs
 
--- src/lib.rt:20:17
 enum-told : tie.Need-enum-told
 enum-told c = search needs
 
--- src/lib.rt:21:17
 sheet-lines-requires : tie.Need-sheet-lines-requires
 sheet-lines-requires c κs = search needs
 
--- src/lib.rt:22:13
 answer-lines-requires : tie.Need-answer-lines-requires
 answer-lines-requires c κs =
     let first = c .before .before .sheet-lines .ensures in
     let room = c .before .before .before .sheet-lines-arg .given in
     (run-fits _ _ _ _ _ _ (c .before .before .before .before .before .before .before .before .search .ensures), omega (arith, first .1, puts-length (first .0), room))
 
--- src/lib.rt:11:1
 returns : tie.Need-returns
 returns c =
     let s = c .before .before .before .before .before .before in
     (_, s .search .ensures, puts-table-refused _ _ _ _ (c .before .before .before .before .before .quote .ensures) _ (c .before .before .before .opened .given .1) (c .refused-line .ensures))
 
--- src/lib.rt:11:1
 returns-2 : tie.Need-returns-2
 returns-2 c =
     let s = c .before .before .before .before .before .before .before .before .before in (

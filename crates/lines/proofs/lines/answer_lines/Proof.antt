@@ -1,3 +1,4 @@
+-- `lines::lines::answer_lines` meets its contract: the lines of the answer, case by case. Assumes nothing.
 use mathlib.Core.Path.{_≡_, sym}
 use Prim.Native.Nat.{_+_, _<_}
 use native.Mathlib.Omega.{arith}
@@ -9,30 +10,19 @@ use Rattle.lines.specs.Laws.{lasso-fits, puts-lasso, puts-holds, puts-an
 use borrow.Author.Needs.{needs}
 use Rattle.lines.proofs.lines.answer_lines.Statement.{statement}
 use Rattle.lines.proofs.lines.answer_lines.Tie as tie
-use Rattle.lines.proofs.lines.answer_lines.Reads as reads
-use Rattle.lines.proofs.lines.answer_lines.Lts as lts
-use Rattle.lines.proofs.lines.refused_line.Reads as refused-line-reads
-use Rattle.lines.proofs.put.put_line.Reads as put-line-reads
-use Rattle.lines.proofs.put.put_text.Reads as put-text-reads
-use Rattle.lines.proofs.put.put_words.Reads as put-words-reads
 
--- src/lines.rt:59:25
 enum-known-answer : tie.Need-enum-known-answer
 enum-known-answer c = search needs
 
--- src/lines.rt:61:41
 slice-aggregate-put-line : tie.Need-slice-aggregate-put-line
 slice-aggregate-put-line c = search needs
 
--- src/lines.rt:61:51
 slice-aggregate-put-line-2 : tie.Need-slice-aggregate-put-line-2
 slice-aggregate-put-line-2 c = search needs
 
--- src/lines.rt:61:17
 put-line-requires : tie.Need-put-line-requires
 put-line-requires c κs = search needs
 
--- src/lines.rt:62:33
 slice-aggregate-put-words : tie.Need-slice-aggregate-put-words
 slice-aggregate-put-words c = search needs
 
@@ -40,15 +30,12 @@ slice-aggregate-put-words c = search needs
 run-in : (c : tie.After-states) → let report = now (c .before .before .before .before .before .args .report) in (c .before .before .answer .given .0 .0 < length report) × (length report ≡ 8192)
 run-in c = (lasso-fits _ _ _ _ (c .before .before .answer .given .1) (c .before .before .before .before .before .pre .0), c .states .given .0)
 
--- src/lines.rt:62:51
 add-put-words : tie.Need-add-put-words
 add-put-words c = record { fits = omega (arith, run-in (c .before .before .before .before .before .before .before .before)) }
 
--- src/lines.rt:62:41
 slice-aggregate-put-words-2 : tie.Need-slice-aggregate-put-words-2
 slice-aggregate-put-words-2 c = let r = run-in (c .before .before .before .before .before .before .before .before .before) in sym (length-take-le _ _ (omega arith))
 
--- src/lines.rt:62:13
 put-words-requires : tie.Need-put-words-requires
 put-words-requires c κs =
     let s = c .before .before .before .before .before .before .before .before .before in
@@ -58,31 +45,24 @@ put-words-requires c κs =
     let n = length-take-le (s .before .before .answer .given .0 .0 + 1) (now (s .before .before .before .before .before .args .report)) (omega arith) in
     omega (arith, first .1, puts-length (first .0))
 
--- src/lines.rt:64:35
 enum-told : tie.Need-enum-told
 enum-told c = search needs
 
--- src/lines.rt:64:44
 slice-aggregate-put-text : tie.Need-slice-aggregate-put-text
 slice-aggregate-put-text c = search needs
 
--- src/lines.rt:64:26
 put-text-requires : tie.Need-put-text-requires
 put-text-requires c κs = search needs
 
--- src/lines.rt:65:25
 enum-known-answer-2 : tie.Need-enum-known-answer-2
 enum-known-answer-2 c = search needs
 
--- src/lines.rt:65:33
 refused-line-requires : tie.Need-refused-line-requires
 refused-line-requires c κs = search needs
 
--- src/lines.rt:53:1
 same-length : tie.Need-same-length
 same-length c = search needs
 
--- src/lines.rt:53:1
 returns : tie.Need-returns
 returns c =
     let s = c .before .before .before .before .before .before .before .before .before .before .before .before in
@@ -90,21 +70,17 @@ returns c =
     puts-lasso (start .args .answer) (now (start .args .report)) _ _ (s .before .before .answer .given .1)
     (puts-on (c .before .before .before .before .before .before .before .before .put-line .ensures .0) (c .before .before .put-words .ensures .0))
 
--- src/lines.rt:53:1
 same-length-2 : tie.Need-same-length-2
 same-length-2 c = search needs
 
--- src/lines.rt:53:1
 returns-2 : tie.Need-returns-2
 returns-2 c =
     let start = c .before .before .before .before .before .before .before .before in
     puts-holds (start .args .answer) (now (start .args .report)) (c .before .before .before .before .before .enum-told .given .1) (c .before .before .put-text .ensures)
 
--- src/lines.rt:53:1
 same-length-3 : tie.Need-same-length-3
 same-length-3 c = search needs
 
--- src/lines.rt:53:1
 returns-3 : tie.Need-returns-3
 returns-3 c =
     let start = c .before .before .before .before .before .before .before .before in

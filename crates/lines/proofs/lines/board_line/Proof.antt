@@ -1,50 +1,38 @@
+-- `lines::lines::board_line` meets its contract: a letter below 8, or `none`. Assumes nothing.
 use native.Mathlib.Omega.{arith}
 use Rattle.lines.specs.Puts.{puts-on}
 use Rattle.lines.specs.Laws.{puts-letter, puts-none}
 use borrow.Author.Needs.{needs}
 use Rattle.lines.proofs.lines.board_line.Statement.{statement}
 use Rattle.lines.proofs.lines.board_line.Tie as tie
-use Rattle.lines.proofs.lines.board_line.Reads as reads
-use Rattle.lines.proofs.lines.board_line.Lts as lts
-use Rattle.lines.proofs.put.put_text.Reads as put-text-reads
 
--- src/lines.rt:21:33
 slice-aggregate-put-text : tie.Need-slice-aggregate-put-text
 slice-aggregate-put-text c = search needs
 
--- src/lines.rt:21:9
 put-text-requires : tie.Need-put-text-requires
 put-text-requires c κs = search needs
 
--- src/lines.rt:23:35
 cast-t16 : tie.Need-cast-t16
 cast-t16 c = search needs
 
--- src/lines.rt:23:30
 add-t17 : tie.Need-add-t17
 add-t17 c = search needs
 
--- src/lines.rt:23:28
 slice-aggregate-put-text-2 : tie.Need-slice-aggregate-put-text-2
 slice-aggregate-put-text-2 c = search needs
 
--- src/lines.rt:23:9
 put-text-requires-2 : tie.Need-put-text-requires-2
 put-text-requires-2 c κs = search needs
 
--- src/lines.rt:25:28
 slice-aggregate-put-text-3 : tie.Need-slice-aggregate-put-text-3
 slice-aggregate-put-text-3 c = search needs
 
--- src/lines.rt:25:9
 put-text-requires-3 : tie.Need-put-text-requires-3
 put-text-requires-3 c κs = search needs
 
--- src/lines.rt:16:1
 same-length : tie.Need-same-length
 same-length c = search needs
 
--- src/lines.rt:16:1
 returns : tie.Need-returns
 returns c =
     let first = c .before .before .before .before .before .before .before .before .put-text .ensures in
@@ -53,11 +41,9 @@ returns c =
     let f = p .ends in
     (puts-letter (c .before .before .before .before .before .before .before .before .before .before .before .before .args .board) (omega arith) (puts-on first p), omega arith)
 
--- src/lines.rt:16:1
 same-length-2 : tie.Need-same-length-2
 same-length-2 c = search needs
 
--- src/lines.rt:16:1
 returns-2 : tie.Need-returns-2
 returns-2 c =
     let first = c .before .before .before .before .before .before .before .before .put-text .ensures in

@@ -1,46 +1,34 @@
+-- `lines::lines::sheet_lines` meets its contract: three lines one after the other. Assumes nothing.
 use native.Mathlib.Omega.{arith}
 use Rattle.lines.specs.Puts.{puts-on}
 use borrow.Author.Needs.{needs}
 use Rattle.lines.proofs.lines.sheet_lines.Statement.{statement}
 use Rattle.lines.proofs.lines.sheet_lines.Tie as tie
-use Rattle.lines.proofs.lines.sheet_lines.Reads as reads
-use Rattle.lines.proofs.lines.sheet_lines.Lts as lts
-use Rattle.lines.proofs.lines.board_line.Reads as board-line-reads
-use Rattle.lines.proofs.put.put_line.Reads as put-line-reads
 
--- src/lines.rt:37:32
 slice-aggregate-put-line : tie.Need-slice-aggregate-put-line
 slice-aggregate-put-line c = search needs
 
--- src/lines.rt:37:41
 slice-aggregate-put-line-2 : tie.Need-slice-aggregate-put-line-2
 slice-aggregate-put-line-2 c = search needs
 
--- src/lines.rt:37:9
 put-line-requires : tie.Need-put-line-requires
 put-line-requires c κs = search needs
 
--- src/lines.rt:38:9
 board-line-requires : tie.Need-board-line-requires
 board-line-requires c κs = search needs
 
--- src/lines.rt:39:24
 slice-aggregate-put-line-3 : tie.Need-slice-aggregate-put-line-3
 slice-aggregate-put-line-3 c = search needs
 
--- src/lines.rt:39:36
 slice-aggregate-put-line-4 : tie.Need-slice-aggregate-put-line-4
 slice-aggregate-put-line-4 c = search needs
 
--- src/lines.rt:39:5
 put-line-requires-2 : tie.Need-put-line-requires-2
 put-line-requires-2 c κs = search needs
 
--- src/lines.rt:30:1
 same-length : tie.Need-same-length
 same-length c = search needs
 
--- src/lines.rt:30:1
 returns : tie.Need-returns
 returns c =
     let third = c .before .before .put-line2 .ensures in

@@ -1,3 +1,4 @@
+-- `lines::put::put_line` meets its contract: the word, number after number, and the end of the line. Assumes nothing.
 use mathlib.Core.Path.{_≡_, refl}
 use Prim.Native.Nat.{_+_, _-_, _*_, _≤_}
 use denote.Ref.{now}
@@ -8,10 +9,6 @@ use borrow.Author.Needs.{needs}
 use Rattle.lines.specs.Puts.{Puts, Begun, begun, begun-on, line-room, line-done, puts-length}
 use Rattle.lines.proofs.put.put_line.Statement.{statement}
 use Rattle.lines.proofs.put.put_line.Tie as tie
-use Rattle.lines.proofs.put.put_line.Reads as reads
-use Rattle.lines.proofs.put.put_line.Lts as lts
-use Rattle.lines.proofs.put.put_number.Reads as put-number-reads
-use Rattle.lines.proofs.put.put_text.Reads as put-text-reads
 
 abbrev Inv-loop : tie.InvT-loop
 Inv-loop out₀ at word numbers end₀ i₀ t7 out end i = Begun numbers end₀ out₀ i end out
@@ -19,19 +16,15 @@ Inv-loop out₀ at word numbers end₀ i₀ t7 out end i = Begun numbers end₀ 
 abbrev μ-loop : tie.MeasureT-loop
 μ-loop out₀ at word numbers end₀ i₀ t7 out end i = length numbers - i
 
--- src/put.rt:40:9
 put-text-requires : tie.Need-put-text-requires Inv-loop μ-loop
 put-text-requires c κs = omega arith
 
--- src/put.rt:42:5
 loop-holds : tie.Need-loop-holds Inv-loop μ-loop
 loop-holds c = let p = c .before .before .put-text .ensures in let r = p .room in begun _ _ _ (omega (arith, puts-length p))
 
--- src/put.rt:43:36
 mul-put-number : tie.Need-mul-put-number Inv-loop μ-loop
 mul-put-number c = search needs
 
--- src/put.rt:43:36
 shared-slice-read-put-number : tie.Need-shared-slice-read-put-number Inv-loop μ-loop
 shared-slice-read-put-number c = search needs
 
@@ -43,27 +36,21 @@ room : (a : tie.At-loop Inv-loop μ-loop) → let s = a .before .before .before 
     (length (a .loop .out) ≡ length (now (s .out))) × (a .loop .end ≤ s .at + length (now (s .word)) + 21 * a .loop .i)
 room a = line-room (word-put a) (a .loop .inv)
 
--- src/put.rt:43:9
 put-number-requires : tie.Need-put-number-requires Inv-loop μ-loop
 put-number-requires c κs = let a = c .before .before .before in omega (arith, room a, a .before .before .before .before .before .before .before .before .pre)
 
--- src/put.rt:44:9
 add-i : tie.Need-add-i Inv-loop μ-loop
 add-i c = search needs
 
--- src/put.rt:42:5
 loop-less : tie.Need-loop-less Inv-loop μ-loop
 loop-less c = search needs
 
--- src/put.rt:42:5
 loop-again : tie.Need-loop-again Inv-loop μ-loop
 loop-again c = let a = c .before .before .before .before .before .before in begun-on (a .loop .inv) (omega arith) refl (c .before .before .put-number .ensures .0) (c .before .before .put-number .ensures .1)
 
--- src/put.rt:46:24
 slice-aggregate-put-text : tie.Need-slice-aggregate-put-text Inv-loop μ-loop
 slice-aggregate-put-text c = search needs
 
--- src/put.rt:46:5
 put-text-requires-2 : tie.Need-put-text-requires-2 Inv-loop μ-loop
 put-text-requires-2 c κs = let a = c .before .before .before in omega (arith, room a, a .loop .inv .upto, a .before .before .before .before .before .before .before .before .pre)
 
@@ -71,11 +58,9 @@ said : (c : tie.After-slice-known4 Inv-loop μ-loop) → let s = c .before .befo
     Puts (lineOf (now (s .word)) (now (s .numbers))) (s .at) (now (s .out)) (p .result) (p .last .0)
 said c = let a = c .before .before .before .before .before .before in line-done (word-put a) (a .loop .inv) (omega arith) (c .before .before .put-text2 .ensures)
 
--- src/put.rt:35:1
 same-length : tie.Need-same-length Inv-loop μ-loop
 same-length c = puts-length (said c)
 
--- src/put.rt:35:1
 returns : tie.Need-returns Inv-loop μ-loop
 returns c = let a = c .before .before .before .before .before .before in let e = c .before .before .put-text2 .ensures .ends in (said c, omega (arith, room a, a .loop .inv .upto))
 

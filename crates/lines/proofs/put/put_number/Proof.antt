@@ -1,3 +1,4 @@
+-- `lines::put::put_number` meets its contract: a space, and then the digits that the kit gives, which are the number in decimal. Assumes nothing.
 use mathlib.Core.List.{_∷_}
 use Prim.Native.Nat.{_+_, _≤_}
 use denote.Ref.{now}
@@ -6,32 +7,22 @@ use Rattle.lines.specs.Puts.{Puts, puts-length, digits-fit, puts-number}
 use borrow.Author.Needs.{needs}
 use Rattle.lines.proofs.put.put_number.Statement.{statement}
 use Rattle.lines.proofs.put.put_number.Tie as tie
-use Rattle.lines.proofs.put.put_number.Reads as reads
-use Rattle.lines.proofs.put.put_number.Lts as lts
-use Rattle.io.proofs.decimal.Reads as decimal-reads
-use Rattle.lines.proofs.put.put_text.Reads as put-text-reads
 
--- src/put.rt:29:9
 decimal-requires : tie.Need-decimal-requires
 decimal-requires c κs = search needs
 
--- src/put.rt:30:5
 slice-write-out : tie.Need-slice-write-out
 slice-write-out c = search needs
 
--- src/put.rt:31:19
 add-put-text : tie.Need-add-put-text
 add-put-text c = search needs
 
--- src/put.rt:31:27
 array-share-prefix-digits : tie.Need-array-share-prefix-digits
 array-share-prefix-digits c = search needs
 
--- src/put.rt:31:27
 slice-aggregate-put-text : tie.Need-slice-aggregate-put-text
 slice-aggregate-put-text c = search needs
 
--- src/put.rt:31:5
 put-text-requires : tie.Need-put-text-requires
 put-text-requires c κs =
     let start = c .before .before .before .before .before in
@@ -45,11 +36,9 @@ said c =
     let ((least, count), (fewest, is)) = c .before .before .before .before .before .decimal .ensures in
     puts-number _ _ _ (start .fits .n .fits) fewest count is (start .pre) (c .before .before .put-text .ensures)
 
--- src/put.rt:23:1
 same-length : tie.Need-same-length
 same-length c = puts-length (said c .0)
 
--- src/put.rt:23:1
 returns : tie.Need-returns
 returns c = said c
 

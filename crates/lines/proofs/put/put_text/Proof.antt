@@ -1,3 +1,4 @@
+-- `lines::put::put_text` meets its contract: byte after byte, each after the ones before. Assumes nothing.
 use mathlib.Core.List.{List}
 use Prim.Native.Nat.{ℕ, _+_, _-_, _≤_}
 use native.Mathlib.Omega.{arith}
@@ -6,8 +7,6 @@ use borrow.Author.Needs.{needs}
 use Rattle.lines.specs.Puts.{Puts, puts-none, puts-byte, puts-all, puts-length}
 use Rattle.lines.proofs.put.put_text.Statement.{statement}
 use Rattle.lines.proofs.put.put_text.Tie as tie
-use Rattle.lines.proofs.put.put_text.Reads as reads
-use Rattle.lines.proofs.put.put_text.Lts as lts
 
 -- the first i bytes of the text are written
 record Copied (text : List ℕ) (from : ℕ) (w : List ℕ) (i : ℕ) (w′ : List ℕ) : Type 0 where
@@ -20,43 +19,33 @@ Inv-loop out₀ at text i₀ out i = Copied text at out₀ i out
 abbrev μ-loop : tie.MeasureT-loop
 μ-loop out₀ at text i₀ out i = length text - i
 
--- src/put.rt:15:5
 loop-holds : tie.Need-loop-holds Inv-loop μ-loop
 loop-holds c = record { done = puts-none _ _ (omega arith); upto = omega arith }
 
--- src/put.rt:16:23
 shared-slice-read-out : tie.Need-shared-slice-read-out Inv-loop μ-loop
 shared-slice-read-out c = search needs
 
--- src/put.rt:16:13
 add-out : tie.Need-add-out Inv-loop μ-loop
 add-out c = search needs
 
--- src/put.rt:16:9
 slice-write-out : tie.Need-slice-write-out Inv-loop μ-loop
 slice-write-out c = omega (arith, puts-length (c .before .before .loop .inv .done))
 
--- src/put.rt:17:9
 add-i : tie.Need-add-i Inv-loop μ-loop
 add-i c = search needs
 
--- src/put.rt:15:5
 loop-less : tie.Need-loop-less Inv-loop μ-loop
 loop-less c = search needs
 
--- src/put.rt:15:5
 loop-again : tie.Need-loop-again Inv-loop μ-loop
 loop-again c = let l = c .before .before .loop .inv in record { done = puts-byte _ _ _ (l .done) (omega arith) (omega arith); upto = omega arith }
 
--- src/put.rt:19:5
 add-result : tie.Need-add-result Inv-loop μ-loop
 add-result c = search needs
 
--- src/put.rt:10:1
 same-length : tie.Need-same-length Inv-loop μ-loop
 same-length c = puts-length (c .before .loop .inv .done)
 
--- src/put.rt:10:1
 returns : tie.Need-returns Inv-loop μ-loop
 returns c = puts-all _ _ _ (c .before .loop .inv .done) (omega arith)
 
