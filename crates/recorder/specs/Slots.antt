@@ -95,6 +95,10 @@ module _ (n m : ℕ) where
   unfolding slotOf recordOfSlot
   slot-of-record x = rw (div-add-mod' (x / 2 ^ m / 2) (n + 1), bit-forth (x / 2 ^ m % 2) (mod-lt _ (omega arith)), div-add-mod' (x / 2 ^ m) 2, div-add-mod' x (2 ^ m))
 
+  -- so a record is the one after r where its slot number is one more
+  pub next-slot : (r r′ : Record) → r′ .t ≤ n → r′ .v < 2 ^ m → slotOf n m r′ ≡ slotOf n m r + 1 → r′ ≡ recordOfSlot n m (slotOf n m r + 1)
+  next-slot r r′ ht hv e = sym (record-of-slot r′ ht hv) ∙ ap (recordOfSlot n m) e
+
   pub slot-below : (r : Record) → InRange n m r → slotOf n m r < slotCount n m
   unfolding slotOf
   slot-below r ok =
