@@ -11,7 +11,7 @@ use table::Table;
 fn mark(bytes: &[u8], t: Table, slots: usize, p: usize, r: Record) -> u8
     requires { ⌜ Asks (now bytes) t slots ⌝ }
     requires { ⌜ (p < slots) × RecordAt t p r ⌝ }
-    ensures { λ r. ⌜ r ≡ markOf (now (bytes .entry)) p ⌝ }
+    ensures { λ x. ⌜ x ≡ markOf (now (bytes .entry)) p ⌝ }
 {
     let n = t.states;
     let m = t.sets;

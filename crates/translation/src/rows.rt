@@ -13,7 +13,7 @@ use table::Table;
 fn row_length(bytes: &[u8], t: Table, slots: usize, p: usize, r: Record) -> usize
     requires { ⌜ Asks (now bytes) t slots ⌝ }
     requires { ⌜ (p < slots) × RecordAt t p r ⌝ }
-    ensures { λ r. ⌜ r ≡ length (rowOf (now (bytes .entry)) p) ⌝ }
+    ensures { λ x. ⌜ x ≡ length (rowOf (now (bytes .entry)) p) ⌝ }
 {
     let n = t.states;
     let s = r.s;

@@ -28,12 +28,20 @@ fn put_both(both: bool, part: &mut [u8], at: usize, x: usize, y: usize) -> usize
 
 // Writes the row of slot p, whose record is r, at index `at`: along each edge of its state the step that saves, and where nothing is saved the other
 // one too. Answers the index after the row.
-fn write_row(bytes: &[u8], t: Table, part: &mut [u8], slots: usize, at: usize, p: usize, r: Record) -> usize
+fn write_row(
+    bytes: &[u8],
+    t: Table,
+    part: &mut [u8],
+    slots: usize,
+    at: usize,
+    p: usize,
+    r: Record,
+) -> usize
     requires { ⌜ Asks (now bytes) t slots ⌝ }
     requires { ⌜ (p < slots) × RecordAt t p r ⌝ }
     requires { ⌜ at + 4 * length (rowOf (now bytes) p) ≤ length (now part) ⌝ }
-    ensures { λ r. ⌜ r ≡ at + 4 * length (rowOf (now (bytes .entry)) p) ⌝ }
-    ensures { λ r. ⌜ now (part .exit) ≡ placed at (littleEndian (rowOf (now (bytes .entry)) p)) (now (part .entry)) ⌝ }
+    ensures { λ x. ⌜ x ≡ at + 4 * length (rowOf (now (bytes .entry)) p) ⌝ }
+    ensures { λ _. ⌜ now (part .exit) ≡ placed at (littleEndian (rowOf (now (bytes .entry)) p)) (now (part .entry)) ⌝ }
 {
     let n = t.states;
     let m = t.sets;
@@ -43,14 +51,16 @@ fn write_row(bytes: &[u8], t: Table, part: &mut [u8], slots: usize, at: usize, p
     let fair = table::fair(bytes, t, s);
     let to = table::row_start(bytes, s + 1);
     let mut i = table::row_start(bytes, s);
+    // Only the state differs from edge to edge: x and y are the slots of the steps to state 0, and a state has `each` slots.
+    let saving = r.step(n, goal, fair, 0, true);
+    let x = saving.slot(n, m);
+    let plain = r.step(n, goal, fair, 0, false);
+    let y = plain.slot(n, m);
+    let each = recorder::with_flag_and_bits(1, n + 1, m);
     let mut end = at;
     while i < to {
-        let next = table::target(bytes, t, i);
-        let saving = r.step(n, goal, fair, next, true);
-        let x = saving.slot(n, m);
-        let plain = r.step(n, goal, fair, next, false);
-        let y = plain.slot(n, m);
-        end = put_both(saved == n, part, end, x, y);
+        let first = table::target(bytes, t, i) * each;
+        end = put_both(saved == n, part, end, first + x, first + y);
         i += 1;
     }
     end
