@@ -62,6 +62,11 @@ count-is : (n m : ℕ) → slotCount n m ≡ n * (n + 1) * 2 * 2 ^ m
 unfolding slotCount
 count-is n m = ap (λ (p : ℕ). n * (n + 1) * p) (two-halves m) ∙ sym (mul-assoc (n * (n + 1)) 2 (2 ^ m))
 
+-- a slot number by its state: each state has as many slots
+pub slot-by-state : (n m : ℕ) (r : Record) → slotOf n m r ≡ r .s * (1 * (n + 1) * 2 ^ (m + 1)) + slotOf n m (record { s = 0; t = r .t; live = r .live; v = r .v })
+unfolding slotOf
+slot-by-state n m r = rw (two-halves m) (omega arith)
+
 module _ (n m : ℕ) where
   -- a record is the one of its slot number
   pub record-of-slot : (r : Record) → r .t ≤ n → r .v < 2 ^ m → recordOfSlot n m (slotOf n m r) ≡ r
@@ -94,6 +99,10 @@ module _ (n m : ℕ) where
   pub slot-of-record : (x : ℕ) → slotOf n m (recordOfSlot n m x) ≡ x
   unfolding slotOf recordOfSlot
   slot-of-record x = rw (div-add-mod' (x / 2 ^ m / 2) (n + 1), bit-forth (x / 2 ^ m % 2) (mod-lt _ (omega arith)), div-add-mod' (x / 2 ^ m) 2, div-add-mod' x (2 ^ m))
+
+  -- so a record is the one after r where its slot number is one more
+  pub next-slot : (r r′ : Record) → r′ .t ≤ n → r′ .v < 2 ^ m → slotOf n m r′ ≡ slotOf n m r + 1 → r′ ≡ recordOfSlot n m (slotOf n m r + 1)
+  next-slot r r′ ht hv e = sym (record-of-slot r′ ht hv) ∙ ap (recordOfSlot n m) e
 
   pub slot-below : (r : Record) → InRange n m r → slotOf n m r < slotCount n m
   unfolding slotOf

@@ -1,5 +1,5 @@
--- What each writer asks of the table: it is accepted, and its slots are counted. Then what is known of slot p's record, as the code takes it apart, and
--- the numbers that the code computes of it: its mark, and how long its row is. Assumes nothing.
+-- What each writer asks of the table: it is accepted, and its slots are counted. Then what is known of slot p's record, which the code carries along
+-- with p, and the numbers that the code computes of it: its mark, and how long its row is. Assumes nothing.
 use mathlib.Core.Path.{_≡_, refl, sym, ap, ap₂, _∙_}
 use mathlib.Core.Bool.{Bool, true, false, cond, _&&_}
 use mathlib.Core.List.{List}
@@ -12,7 +12,7 @@ use lib.Pow.{pow-pos}
 use mir.Val.{boolByte}
 use Rattle.recorder.specs.Flag.{liveFlag}
 use Rattle.recorder.specs.Recorder.{startOf, badOf, unsaved}
-use Rattle.recorder.specs.Slots.{slotOf, recordOfSlot, bitOf, InRange}
+use Rattle.recorder.specs.Slots.{slotOf, recordOfSlot, bitOf, InRange, slot-of-record, saved-in, bits-in}
 use Rattle.recorder.specs.SlotGraph.{at, slot}
 use Rattle.recorder.specs.Says.{StartSays, BadSays}
 use Rattle.recorder.specs.declared.Record.{Record}
@@ -31,6 +31,15 @@ pub record Asks (b : List ℕ) (t : Table) (S : ℕ) : Type 0 where
   pub formed : WellFormed b
   pub laid : LaidOut b t
   pub slots-are : S ≡ slotsOf b
+
+-- r is the record of slot p
+abbrev pub RecordAt : Table → ℕ → Record → Type 0
+RecordAt t p r = r ≡ recordOfSlot (t .states) (t .sets) p
+
+-- what a loop over the slots holds when slot p comes: the record of p, and how far its section is written
+pub record Carries (t : Table) (p : ℕ) (r : Record) (Section : Type 0) : Type 0 where
+  pub here : RecordAt t p r
+  pub written : Section
 
 -- the slots are few, and no row starts far
 pub slots-small : {b : List ℕ} {t : Table} {S : ℕ} → Asks b t S → S < 4294967295
@@ -58,17 +67,33 @@ start-range : (b : List ℕ) (s : ℕ) → s < statesOf b → InRange (statesOf 
 unfolding blockOf
 start-range b s h = record { s-in = h; t-in = omega arith; v-in = pow-pos (setsOf b) }
 
--- r is the record of slot p, as the code takes it apart
-module _ {b : List ℕ} {t : Table} {S p : ℕ} {r : Record} (a : Asks b t S) (h : p < S) (e : r ≡ recordOfSlot (t .states) (t .sets) p) where
+module _ {b : List ℕ} {t : Table} {S p : ℕ} {r : Record} (a : Asks b t S) (h : (p < S) × RecordAt t p r) where
   pub slot-in : p < slotsOf b
   slot-in = omega (arith, a .slots-are)
 
   pub record-is : r ≡ at (blockOf b) p
   unfolding blockOf
-  record-is = e ∙ ap₂ (λ (n m : ℕ). recordOfSlot n m p) (a .laid .states-are) (a .laid .sets-are)
+  record-is = h .1 ∙ ap₂ (λ (n m : ℕ). recordOfSlot n m p) (a .laid .states-are) (a .laid .sets-are)
 
   pub state-below : r .s < t .states
   state-below = omega (arith, ap (λ (r : Record). r .s) record-is, a .laid .states-are, state-in b p slot-in)
+
+  pub record-range : (t .states ≤ 64) × (t .sets ≤ 8) × InRange (t .states) (t .sets) r
+  record-range = (
+    a .laid .states-to,
+    omega (arith, a .laid .sets-to),
+    record {
+      s-in = state-below;
+      t-in = rw (h .1) (saved-in (t .states) (t .sets) p);
+      v-in = rw (h .1) (bits-in (t .states) (t .sets) p);
+    },
+  )
+
+  -- and the one after it
+  pub next-is : {r′ : Record} → r′ ≡ recordOfSlot (t .states) (t .sets) (slotOf (t .states) (t .sets) r + 1) → RecordAt t (p + 1) r′
+  next-is d =
+      let q = ap (slotOf (t .states) (t .sets)) (h .1) ∙ slot-of-record (t .states) (t .sets) p in
+      d ∙ ap (λ (x : ℕ). recordOfSlot (t .states) (t .sets) (x + 1)) q
 
   pub unsaved-is : eqb (r .t) (t .states) ≡ unsaved (blockOf b) (at (blockOf b) p .t)
   unsaved-is = ap₂ (λ (r : Record) (n : ℕ). eqb (r .t) n) record-is (a .laid .states-are ∙ sym (block-states b))

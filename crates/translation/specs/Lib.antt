@@ -9,6 +9,7 @@ pub mod Marks
 pub mod Demand3
 pub mod Placed
 pub mod Asks
+pub mod Along
 pub mod Header
 pub mod Writing
 pub mod Laws

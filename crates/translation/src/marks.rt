@@ -3,19 +3,18 @@ ghost use mathlib.Core.Path.{_≡_};
 ghost use Prim.Native.Nat.{_<_};
 ghost use lib.ListN.{length};
 ghost use Rattle.translation.specs.File.{listed, markOf};
-ghost use Rattle.translation.specs.Asks.{Asks};
+ghost use Rattle.translation.specs.Asks.{Asks, RecordAt};
 use recorder::Record;
 use table::Table;
 
-// The mark of slot p: bit 0 start, bit 1 goal, bit 6 bad.
-fn mark(bytes: &[u8], t: Table, slots: usize, p: usize) -> u8
+// The mark of slot p, whose record is r: bit 0 start, bit 1 goal, bit 6 bad.
+fn mark(bytes: &[u8], t: Table, slots: usize, p: usize, r: Record) -> u8
     requires { ⌜ Asks (now bytes) t slots ⌝ }
-    requires { ⌜ p < slots ⌝ }
-    ensures { λ r. ⌜ r ≡ markOf (now (bytes .entry)) p ⌝ }
+    requires { ⌜ (p < slots) × RecordAt t p r ⌝ }
+    ensures { λ x. ⌜ x ≡ markOf (now (bytes .entry)) p ⌝ }
 {
     let n = t.states;
     let m = t.sets;
-    let r = Record::of_slot(p, n, m);
     let s = r.s;
     let first = Record::start(s, n);
     let x = first.slot(n, m);
@@ -31,9 +30,13 @@ pub(crate) fn write_marks(bytes: &[u8], t: Table, part: &mut [u8], slots: usize)
     requires { ⌜ length (now part) ≡ slots ⌝ }
     ensures { λ _. ⌜ now (part .exit) ≡ listed (markOf (now (bytes .entry))) slots ⌝ }
 {
+    let n = t.states;
+    let m = t.sets;
+    let mut r = Record::of_slot(0, n, m);
     let mut p = 0;
     while p < slots {
-        part[p] = mark(bytes, t, slots, p);
+        part[p] = mark(bytes, t, slots, p, r);
+        r = r.following(n, m);
         p += 1;
     }
 }

@@ -1,4 +1,4 @@
--- `translation::marks::mark` meets its contract: the record of the slot is taken apart, and its three bits are those of the rules. Assumes nothing.
+-- `translation::marks::mark` meets its contract: the three bits of the slot's record are those of the rules. Assumes nothing.
 use mathlib.Core.Bool.{Bool, _&&_}
 use Prim.Native.Nat.{_≤_}
 use native.Mathlib.Omega.{arith}
@@ -12,29 +12,22 @@ use Rattle.translation.proofs.marks.mark.Tie as tie
 
 -- whether the slot is that of its state's start record; as numbers this and the other two bits are at most 1
 abbrev starts : tie.After-is-bad → Bool
-starts c = c .before .before .is-start .result && eqb (c .before .before .before .before .before .before .before .args .p) (c .before .before .before .slot .result)
+starts c = c .before .before .is-start .result && eqb (c .before .before .before .before .before .before .args .p) (c .before .before .before .slot .result)
 
 bits : (c : tie.After-is-bad) → (boolByte (starts c) ≤ 1) × (boolByte (c .before .has-goal .result) ≤ 1) × (boolByte (c .is-bad .result) ≤ 1)
 bits c = (byte-small (starts c), byte-small (c .before .has-goal .result), byte-small (c .is-bad .result))
-
-of-slot-requires : tie.Need-of-slot-requires
-of-slot-requires c κs = search needs
 
 start-requires : tie.Need-start-requires
 start-requires c κs = search needs
 
 slot-requires : tie.Need-slot-requires
-slot-requires c κs = let d = c .before .before .before in first-range (d .pre .0) (d .pre .1) (c .before .of-slot .ensures) (c .start .ensures)
+slot-requires c κs = let d = c .before .before in first-range (d .pre .0) (d .pre .1) (c .start .ensures)
 
 is-start-requires : tie.Need-is-start-requires
-is-start-requires c κs =
-    let d = c .before .before .before .before in
-    mark-inside _ _ (d .pre .0 .laid) _ (state-below (d .pre .0) (d .pre .1) (c .before .before .of-slot .ensures))
+is-start-requires c κs = let d = c .before .before .before in mark-inside _ _ (d .pre .0 .laid) _ (state-below (d .pre .0) (d .pre .1))
 
 has-goal-requires : tie.Need-has-goal-requires
-has-goal-requires c κs =
-    let d = c .before .before .before .before .before in
-    mark-inside _ _ (d .pre .0 .laid) _ (state-below (d .pre .0) (d .pre .1) (c .before .before .before .of-slot .ensures))
+has-goal-requires c κs = let d = c .before .before .before .before in mark-inside _ _ (d .pre .0 .laid) _ (state-below (d .pre .0) (d .pre .1))
 
 is-bad-requires : tie.Need-is-bad-requires
 is-bad-requires c κs = search needs
@@ -62,16 +55,14 @@ add-result-2 c = omega (arith, bits c)
 
 returns : tie.Need-returns
 returns c =
-    let r = c .before .before .before .before .before in
-    let d = r .before .before in
-    mark-is (d .pre .0) (d .pre .1) (r .of-slot .ensures) (c .before .before .before .before .start .ensures) (c .before .before .before .slot .ensures)
+    let d = c .before .before .before .before .before .before in
+    mark-is (d .pre .0) (d .pre .1) (c .before .before .before .before .start .ensures) (c .before .before .before .slot .ensures)
     (c .before .before .is-start .ensures) (c .before .has-goal .ensures) (c .is-bad .ensures)
 
 pub mark-spec : {M : Type 1} → statement M
 mark-spec =
     tie.close
     (tie.spec
-    of-slot-requires
     start-requires
     slot-requires
     is-start-requires

@@ -20,10 +20,10 @@ abbrev Read : Type 0
 Read = tie.After-struct-known
 
 abbrev start-of : Read → tie.Start
-start-of c = c .before .before .before .before .before
+start-of c = c .before .before .before .before
 
 abbrev unsaved : Read → Bool
-unsaved c = eqb (c .before .before .before .of-slot .result .t) (start-of c .args .t .states)
+unsaved c = eqb (start-of c .args .r .t) (start-of c .args .t .states)
 
 abbrev row : Read → List ℕ
 row c = rowOf (now (start-of c .args .bytes)) (start-of c .args .p)
@@ -32,38 +32,25 @@ row c = rowOf (now (start-of c .args .bytes)) (start-of c .args .p)
 counted : (c : Read) → (c .before .row-start2 .result - c .before .before .row-start .result) * (1 + boolByte (unsaved c)) ≡ length (row c)
 counted c =
     let d = start-of c in
-    row-counted (d .pre .0) (d .pre .1) (c .before .before .before .of-slot .ensures) (c .before .before .row-start .ensures) (c .before .row-start2 .ensures)
+    row-counted (d .pre .0) (d .pre .1) (c .before .before .row-start .ensures) (c .before .row-start2 .ensures)
 
 few : (c : Read) → length (row c) ≤ 2048
-few c =
-    let d = start-of c in
-    omega (arith, row-few (d .pre .0) (d .pre .1) (c .before .before .before .of-slot .ensures), d .pre .0 .laid .edges-to)
-
-of-slot-requires : tie.Need-of-slot-requires
-of-slot-requires c κs = search needs
+few c = let d = start-of c in omega (arith, row-few (d .pre .0) (d .pre .1), d .pre .0 .laid .edges-to)
 
 row-start-requires : tie.Need-row-start-requires
-row-start-requires c κs =
-    let d = c .before .before in
-    row-inside _ _ (d .pre .0 .laid) _ (omega (arith, state-below (d .pre .0) (d .pre .1) (c .of-slot .ensures)))
+row-start-requires c κs = let d = c .before in row-inside _ _ (d .pre .0 .laid) _ (omega (arith, state-below (d .pre .0) (d .pre .1)))
 
 add-row-start : tie.Need-add-row-start
-add-row-start c =
-    let d = c .before .before .before in
-    omega (arith, state-below (d .pre .0) (d .pre .1) (c .before .of-slot .ensures), d .pre .0 .laid .states-to)
+add-row-start c = let d = c .before .before in omega (arith, state-below (d .pre .0) (d .pre .1), d .pre .0 .laid .states-to)
 
 row-start-requires-2 : tie.Need-row-start-requires-2
-row-start-requires-2 c κs =
-    let d = c .before .before .before in
-    row-inside _ _ (d .pre .0 .laid) _ (omega (arith, state-below (d .pre .0) (d .pre .1) (c .before .of-slot .ensures)))
+row-start-requires-2 c κs = let d = c .before .before in row-inside _ _ (d .pre .0 .laid) _ (omega (arith, state-below (d .pre .0) (d .pre .1)))
 
 sub-result : tie.Need-sub-result
 sub-result c =
-    let r = c .before .before in
-    let d = r .before .before in
-    let p = d .pre in
-    let (some, _) = row-in (p .0) (p .1) (r .of-slot .ensures) in
-    omega (arith, from-is (p .0) (p .1) (r .of-slot .ensures) (c .before .row-start .ensures), to-is (p .0) (p .1) (r .of-slot .ensures) (c .row-start2 .ensures))
+    let p = c .before .before .before .pre in
+    let (some, _) = row-in (p .0) (p .1) in
+    omega (arith, from-is (p .0) (p .1) (c .before .row-start .ensures), to-is (p .0) (p .1) (c .row-start2 .ensures))
 
 cast-result : tie.Need-cast-result
 cast-result c = search needs
@@ -81,7 +68,6 @@ pub row-length-spec : {M : Type 1} → statement M
 row-length-spec =
     tie.close
     (tie.spec
-    of-slot-requires
     row-start-requires
     add-row-start
     row-start-requires-2
