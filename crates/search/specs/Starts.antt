@@ -8,24 +8,21 @@ use native.Mathlib.Decide.{decLt, ℕ-discrete}
 use native.Mathlib.Numerals.{add-one}
 use native.Mathlib.Omega.{arith}
 use lib.ListN.{length}
-use lib.Pow.{pow-pos}
 use borrow.Author.Tests.{eq-eqb}
 use Rattle.order.specs.Log.{Queued, Entry, by-label}
 use Rattle.order.specs.Loop.{Agree, empty, push-entry, queued}
 use Rattle.order.specs.Turn.{Between}
 use Rattle.recorder.specs.Flag.{liveFlag}
 use Rattle.recorder.specs.Recorder.{startOf, badOf, number}
-use Rattle.recorder.specs.Slots.{slotOf, InRange, slot-below}
 use Rattle.recorder.specs.Bad.{bad-says}
 use Rattle.recorder.specs.SlotGraph.{at, slot, at-start}
-use Rattle.recorder.specs.declared.Record.{Record}
-use Rattle.table.specs.Layout.{statesOf, setsOf}
+use Rattle.table.specs.Layout.{statesOf}
 use Rattle.table.specs.BlockOf.{blockOf}
 use Rattle.table.specs.WellFormed.{WellFormed}
 use Rattle.table.specs.LaidOut.{LaidOut}
 use Rattle.table.specs.Sound.{sound}
 use Rattle.table.specs.declared.Table.{Table}
-use Rattle.table.specs.Recording.{slotsOf, graphOf, block-states, slots-few}
+use Rattle.table.specs.Recording.{slotsOf, graphOf, startSlot, start-below, block-states, slots-few}
 use Rattle.search.specs.Workspace.{originAt, slotAt, queueOf, Kept, kept-none, meeting, meeting-agrees, meeting-node, meeting-origin, meeting-keeps}
 use Rattle.search.specs.Meet.{MeetAsks, MeetIfSays, SameRest}
 
@@ -43,10 +40,6 @@ pub record StartsSay (b : List ℕ) (S : ℕ) (w : List ℕ) (r : ℕ) (w′ : L
   pub same : SameRest S w w′
   pub between : Between (graphOf b) (queueOf S w′) 0 r
 
--- the slot of the start record of state s
-abbrev pub startSlot : List ℕ → ℕ → ℕ
-startSlot b s = slot (blockOf b) (startOf liveFlag (blockOf b) s)
-
 -- The starts below state s are queued, and nothing else.
 pub record Starting (b : List ℕ) (w : List ℕ) (tail s : ℕ) : Type 0 where
   pub kept : Kept (slotsOf b) w tail
@@ -56,24 +49,6 @@ pub record Starting (b : List ℕ) (w : List ℕ) (tail s : ℕ) : Type 0 where
   -- the label of state s's start is 2·s + 1
   pub below : (i : ℕ) → i < tail → graphOf b .label (slotAt (slotsOf b) w i) < 2 * s
   pub dealt : (s′ : ℕ) → s′ < s → blockOf b .start s′ ≡ true → Queued (queueOf (slotsOf b) w) tail (startSlot b s′) 0
-
--- a start record is in range, and its slot is a slot
-pub start-range : (b : List ℕ) (s : ℕ) → s < statesOf b → InRange (statesOf b) (setsOf b) (startOf liveFlag (blockOf b) s)
-unfolding blockOf
-start-range b s h = record { s-in = h; t-in = omega arith; v-in = pow-pos (setsOf b) }
-
-start-in : (b : List ℕ) (s : ℕ) → s < statesOf b → startSlot b s < slotsOf b
-unfolding blockOf
-start-in b s h = slot-below (statesOf b) (setsOf b) _ (start-range b s h)
-
--- the same by the table that was opened: the record r that was made has a slot, and that is the start's
-module _ (b : List ℕ) (t : Table) (l : LaidOut b t) (s : ℕ) (r : Record) (e : r ≡ startOf liveFlag (blockOf b) s) where
-  pub made-range : s < t .states → (t .states ≤ 64) × (t .sets ≤ 8) × InRange (t .states) (t .sets) r
-  made-range h = (l .states-to, omega (arith, l .sets-to), rw (l .states-are, l .sets-are, e) (start-range b s (omega (arith, l .states-are))))
-
-  pub made-slot : (x : ℕ) → x ≡ slotOf (t .states) (t .sets) r → x ≡ startSlot b s
-  unfolding blockOf
-  made-slot x d = d ∙ rw (l .states-are, l .sets-are, e)
 
 module _ (b : List ℕ) (f : WellFormed b) where
   start-label : (s : ℕ) → blockOf b .start s ≡ true → graphOf b .label (startSlot b s) ≡ 2 * s + 1
@@ -114,7 +89,7 @@ module _ (b : List ℕ) (f : WellFormed b) (w : List ℕ) (tail s : ℕ) (g : St
 
   -- the slot of state s's start can be met
   pub start-asks : s < statesOf b → MeetAsks (slotsOf b) w tail (startSlot b s) 1
-  start-asks h = record { kept = g .kept; slot-in = start-in b s h; few = slots-few b f; origin-from = omega arith; origin-to = omega arith }
+  start-asks h = record { kept = g .kept; slot-in = start-below b s h; few = slots-few b f; origin-from = omega arith; origin-to = omega arith }
 
   -- state s is no start: nothing changes
   passes : blockOf b .start s ≡ false → Starting b w tail (suc s)
@@ -144,20 +119,20 @@ module _ (b : List ℕ) (f : WellFormed b) (w : List ℕ) (tail s : ℕ) (g : St
         go : Dec (originAt w x ≡ 0) → originAt w x ≡ 0
         go (yes e) = e
         go (no e) =
-            let (i, l, d) = g .kept .only x (start-in b s s-in) (omega arith) in
+            let (i, l, d) = g .kept .only x (start-below b s s-in) (omega arith) in
             absurd (omega (arith, g .below i l, ap (graphOf b .label) d, start-label b f s is-start))
 
     abbrev w⁺ : List ℕ
     w⁺ = meeting S tail x 1 w
 
     agrees : Agree (queueOf S w) (queueOf S w⁺) tail
-    agrees = meeting-agrees S tail x 1 w (g .kept) (start-in b s s-in) new (omega arith)
+    agrees = meeting-agrees S tail x 1 w (g .kept) (start-below b s s-in) new (omega arith)
 
     node : slotAt S w⁺ tail ≡ x
-    node = meeting-node S tail x 1 w (g .kept) (start-in b s s-in) new (omega arith)
+    node = meeting-node S tail x 1 w (g .kept) (start-below b s s-in) new (omega arith)
 
     origin : queueOf S w⁺ .from tail ≡ 0
-    origin = ap (λ (o : ℕ). o - 1) (ap (originAt w⁺) node ∙ meeting-origin S tail x 1 w (g .kept) (start-in b s s-in) new (omega arith))
+    origin = ap (λ (o : ℕ). o - 1) (ap (originAt w⁺) node ∙ meeting-origin S tail x 1 w (g .kept) (start-below b s s-in) new (omega arith))
 
     label : graphOf b .label (slotAt S w⁺ tail) ≡ 2 * s + 1
     label = ap (graphOf b .label) node ∙ start-label b f s is-start
@@ -165,7 +140,7 @@ module _ (b : List ℕ) (f : WellFormed b) (w : List ℕ) (tail s : ℕ) (g : St
     -- it is queued at tail
     queues : Starting b w⁺ (suc tail) (suc s)
     queues = record {
-      kept = meeting-keeps S tail x 1 w (g .kept) (start-in b s s-in) new (omega arith);
+      kept = meeting-keeps S tail x 1 w (g .kept) (start-below b s s-in) new (omega arith);
       entries = push-entry agrees (g .entries) (record {
         start = λ z. (s, is-start, node);
         parent = λ p z. absurd (omega (arith, origin));

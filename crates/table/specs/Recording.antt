@@ -5,9 +5,10 @@ use mathlib.Core.Bool.{Bool, true}
 use mathlib.Core.List.{List}
 use Prim.Native.Nat.{ℕ, suc, _≤_, _<_}
 use native.Mathlib.Omega.{arith}
+use lib.Pow.{pow-pos}
 use Rattle.order.specs.Graph.{Graph}
 use Rattle.recorder.specs.Flag.{liveFlag}
-use Rattle.recorder.specs.Recorder.{stepOf}
+use Rattle.recorder.specs.Recorder.{startOf, stepOf}
 use Rattle.recorder.specs.Slots.{slotCount, slotOf, InRange, saved-in, bits-in, record-in, slot-below}
 use Rattle.recorder.specs.Fits.{count-small}
 use Rattle.recorder.specs.SlotGraph.{slotGraph, at, slot, step-in-range}
@@ -82,3 +83,27 @@ module _ (b : List ℕ) (t : Table) (l : LaidOut b t) (x s′ : ℕ) (wish : Boo
   pub step-slot : (y : ℕ) → y ≡ slotOf (t .states) (t .sets) r → y ≡ nextOf b x s′ wish
   unfolding blockOf
   step-slot y d = d ∙ rw (l .states-are, l .sets-are, e)
+
+-- ---- the start records
+
+-- the slot of state s's start record
+abbrev pub startSlot : List ℕ → ℕ → ℕ
+startSlot b s = slot (blockOf b) (startOf liveFlag (blockOf b) s)
+
+-- it is in range, and its slot is a slot
+pub start-range : (b : List ℕ) (s : ℕ) → s < statesOf b → InRange (statesOf b) (setsOf b) (startOf liveFlag (blockOf b) s)
+unfolding blockOf
+start-range b s h = record { s-in = h; t-in = omega arith; v-in = pow-pos (setsOf b) }
+
+pub start-below : (b : List ℕ) (s : ℕ) → s < statesOf b → startSlot b s < slotsOf b
+unfolding blockOf
+start-below b s h = slot-below (statesOf b) (setsOf b) _ (start-range b s h)
+
+-- the same by the table that was opened: the record r that was made is in range, and its slot is the start's
+module _ (b : List ℕ) (t : Table) (l : LaidOut b t) (s : ℕ) (r : Record) (e : r ≡ startOf liveFlag (blockOf b) s) where
+  pub made-range : s < t .states → (t .states ≤ 64) × (t .sets ≤ 8) × InRange (t .states) (t .sets) r
+  made-range h = (l .states-to, omega (arith, l .sets-to), rw (l .states-are, l .sets-are, e) (start-range b s (omega (arith, l .states-are))))
+
+  pub made-slot : (x : ℕ) → x ≡ slotOf (t .states) (t .sets) r → x ≡ startSlot b s
+  unfolding blockOf
+  made-slot x d = d ∙ rw (l .states-are, l .sets-are, e)

@@ -8,7 +8,6 @@ use native.Mathlib.Numerals.{add-one}
 use native.Mathlib.Omega.{arith}
 use lib.Dec.{eqb}
 use lib.ListN.{length}
-use lib.Pow.{pow-pos}
 use mir.Val.{boolByte}
 use Rattle.recorder.specs.Flag.{liveFlag}
 use Rattle.recorder.specs.Recorder.{startOf, badOf, unsaved}
@@ -22,7 +21,7 @@ use Rattle.table.specs.Layout.{statesOf, edgesOf, setsOf, rowStart}
 use Rattle.table.specs.WellFormed.{WellFormed}
 use Rattle.table.specs.LaidOut.{LaidOut}
 use Rattle.table.specs.Row.{row-some, row-to}
-use Rattle.table.specs.Recording.{slotsOf, stateOf, fromOf, toOf, slots-few, state-in, block-states, block-sets}
+use Rattle.table.specs.Recording.{slotsOf, stateOf, fromOf, toOf, slots-few, state-in, block-states, block-sets, startSlot, made-range, made-slot}
 use Rattle.table.specs.declared.Table.{Table}
 use Rattle.translation.specs.Counts.{length-row, starts-to}
 use Rattle.translation.specs.File.{rowOf, startOfRow, isStart, markOf}
@@ -61,11 +60,6 @@ byte-small u = rw (byte-is-bit u) (go u)
     go : (u : Bool) → bitOf u ≤ 1
     go true = omega arith
     go false = omega arith
-
--- a start record is in range
-start-range : (b : List ℕ) (s : ℕ) → s < statesOf b → InRange (statesOf b) (setsOf b) (startOf liveFlag (blockOf b) s)
-unfolding blockOf
-start-range b s h = record { s-in = h; t-in = omega arith; v-in = pow-pos (setsOf b) }
 
 module _ {b : List ℕ} {t : Table} {S p : ℕ} {r : Record} (a : Asks b t S) (h : (p < S) × RecordAt t p r) where
   pub slot-in : p < slotsOf b
@@ -134,15 +128,10 @@ module _ {b : List ℕ} {t : Table} {S p : ℕ} {r : Record} (a : Asks b t S) (h
     first-is = d (blockOf b) (block-states b ∙ sym (a .laid .states-are))
 
     pub first-range : (t .states ≤ 64) × (t .sets ≤ 8) × InRange (t .states) (t .sets) first
-    first-range = (
-      a .laid .states-to,
-      omega (arith, a .laid .sets-to),
-      rw (a .laid .states-are, a .laid .sets-are, first-is) (start-range b (r .s) (omega (arith, state-below, a .laid .states-are))),
-    )
+    first-range = made-range b t (a .laid) (r .s) first first-is state-below
 
-    first-slot : {x : ℕ} → x ≡ slotOf (t .states) (t .sets) first → x ≡ slot (blockOf b) (startOf liveFlag (blockOf b) (stateOf b p))
-    unfolding blockOf
-    first-slot q = q ∙ rw (a .laid .states-are, a .laid .sets-are, first-is, record-is)
+    first-slot : {x : ℕ} → x ≡ slotOf (t .states) (t .sets) first → x ≡ startSlot b (stateOf b p)
+    first-slot {x} q = made-slot b t (a .laid) (r .s) first first-is x q ∙ ap (λ (r : Record). startSlot b (r .s)) record-is
 
     -- its mark
     pub mark-is : {x : ℕ} {start goal bad : Bool} → x ≡ slotOf (t .states) (t .sets) first → start ≡ blockOf b .start (r .s) → goal ≡ blockOf b .goal (r .s)

@@ -14,14 +14,14 @@ use Rattle.order.specs.Tests.{both}
 use Rattle.recorder.specs.Block.{Sound}
 use Rattle.recorder.specs.Flag.{liveFlag}
 use Rattle.recorder.specs.Recorder.{startOf, badOf}
-use Rattle.recorder.specs.Slots.{bitOf, slot-below}
-use Rattle.recorder.specs.SlotGraph.{at, slot, at-start, start-in-range}
+use Rattle.recorder.specs.Slots.{bitOf}
+use Rattle.recorder.specs.SlotGraph.{at, slot, at-start}
 use Rattle.recorder.specs.declared.Record.{Record}
-use Rattle.table.specs.Layout.{statesOf, setsOf, mark}
+use Rattle.table.specs.Layout.{mark}
 use Rattle.table.specs.BlockOf.{blockOf}
 use Rattle.table.specs.WellFormed.{WellFormed}
 use Rattle.table.specs.Sound.{sound}
-use Rattle.table.specs.Recording.{slotsOf, graphOf, stateOf}
+use Rattle.table.specs.Recording.{slotsOf, graphOf, stateOf, block-states, start-below}
 use Rattle.translation.specs.File.{isStart, markOf, fileOf}
 use Rattle.translation.specs.Counts.{all-targets, length-file}
 use Rattle.translation.specs.ReadBack.{states-read, edges-read, mark-read}
@@ -81,8 +81,7 @@ start-is-start b p s a h d = ap (λ (s : ℕ). blockOf b .start s && eqb p (slot
 
 -- the slot of a start record is a slot
 pub start-slot : (b : List ℕ) (f : WellFormed b) (s : ℕ) → blockOf b .start s ≡ true → slot (blockOf b) (startOf liveFlag (blockOf b) s) < slotsOf b
-unfolding blockOf
-start-slot b f s h = slot-below (statesOf b) (setsOf b) _ (start-in-range liveFlag (blockOf b) (sound b f) s h)
+start-slot b f s h = start-below b s (omega (arith, block-states b, sound b f .start-in s h))
 
 module _ (b : List ℕ) (f : WellFormed b) where
   abbrev F : List ℕ

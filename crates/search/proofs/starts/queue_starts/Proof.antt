@@ -10,9 +10,9 @@ use Rattle.recorder.specs.Recorder.{startOf}
 use Rattle.table.specs.Layout.{statesOf}
 use Rattle.table.specs.BlockOf.{blockOf}
 use Rattle.table.specs.Inside.{mark-inside}
-use Rattle.table.specs.Recording.{slotsOf, block-states}
+use Rattle.table.specs.Recording.{slotsOf, startSlot, block-states, made-range, made-slot}
 use Rattle.search.specs.Meet.{SameRest, rest-same, rest-trans, meets-if, asks-as, if-says-as}
-use Rattle.search.specs.Starts.{StartsAsk, startSlot, Starting, made-range, made-slot, starting-begins, start-asks, starting-on, starting-ends}
+use Rattle.search.specs.Starts.{StartsAsk, Starting, starting-begins, start-asks, starting-on, starting-ends}
 use Rattle.search.proofs.starts.queue_starts.Statement.{statement}
 use Rattle.search.proofs.starts.queue_starts.Tie as tie
 
