@@ -2,7 +2,9 @@
 use std::path::Path;
 
 fn main() {
-    let root = Path::new(env!("CARGO_MANIFEST_DIR")).parent().expect("bindings/ stands in the repository");
+    let root = Path::new(env!("CARGO_MANIFEST_DIR"))
+        .parent()
+        .expect("bindings/ stands in the repository");
     let folder = root.join("target/staticlib");
     let archive = folder.join("liblasso.a");
     println!("cargo:rerun-if-changed={}", archive.display());

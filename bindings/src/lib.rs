@@ -30,7 +30,10 @@ pub struct Sheet {
 #[derive(Clone, Copy, Debug, PartialEq, Eq)]
 pub enum Found {
     /// The states s0 to sk stand in the report; sk leads back to place l.
-    Lasso { k: usize, l: usize },
+    Lasso {
+        k: usize,
+        l: usize,
+    },
     Holds,
 }
 
@@ -56,13 +59,7 @@ mod c {
             report_length: usize,
             answer: *mut [usize; 4],
         ) -> u32;
-        pub fn lasso_translate(
-            table: *const u8,
-            table_length: usize,
-            output: *mut u8,
-            output_length: usize,
-            answer: *mut [usize; 2],
-        ) -> u32;
+        pub fn lasso_translate(table: *const u8, table_length: usize, output: *mut u8, output_length: usize, answer: *mut [usize; 2]) -> u32;
         pub fn lasso_step(
             table: *const u8,
             table_length: usize,
@@ -90,7 +87,15 @@ pub fn open(table: &[u8]) -> Result<Table, Refusal> {
     let mut a = [0; 4];
     // SAFETY: the slice and the array are the caller's and ours for the call, and the function keeps to their lengths.
     let number = unsafe { c::lasso_open(table.as_ptr(), table.len(), &mut a) };
-    refused_or(number, a[0], Table { states: a[1], edges: a[2], sets: a[3] })
+    refused_or(
+        number,
+        a[0],
+        Table {
+            states: a[1],
+            edges: a[2],
+            sets: a[3],
+        },
+    )
 }
 
 /// The quote sheet of the table.
@@ -101,7 +106,13 @@ pub fn quote(table: &[u8]) -> Result<Sheet, Refusal> {
     refused_or(
         number,
         a[0],
-        Sheet { slots: a[1], edges: a[2], bytes: a[3], board: a[4], members: [a[5], a[6], a[7], a[8]] },
+        Sheet {
+            slots: a[1],
+            edges: a[2],
+            bytes: a[3],
+            board: a[4],
+            members: [a[5], a[6], a[7], a[8]],
+        },
     )
 }
 
@@ -138,5 +149,14 @@ pub fn step(table: &[u8], record: Record, next: usize, wish: bool) -> Result<Rec
     let Record { s, t, live, v } = record;
     // SAFETY: as in `open`.
     let number = unsafe { c::lasso_step(table.as_ptr(), table.len(), s, t, live, v, next, wish, &mut a) };
-    refused_or(number, a[0], Record { s: a[1], t: a[2], live: a[3] != 0, v: a[4] })
+    refused_or(
+        number,
+        a[0],
+        Record {
+            s: a[1],
+            t: a[2],
+            live: a[3] != 0,
+            v: a[4],
+        },
+    )
 }
