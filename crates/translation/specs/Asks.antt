@@ -67,6 +67,7 @@ start-range : (b : List ℕ) (s : ℕ) → s < statesOf b → InRange (statesOf 
 unfolding blockOf
 start-range b s h = record { s-in = h; t-in = omega arith; v-in = pow-pos (setsOf b) }
 
+-- slot p and its record r
 module _ {b : List ℕ} {t : Table} {S p : ℕ} {r : Record} (a : Asks b t S) (h : (p < S) × RecordAt t p r) where
   pub slot-in : p < slotsOf b
   slot-in = omega (arith, a .slots-are)
@@ -89,7 +90,7 @@ module _ {b : List ℕ} {t : Table} {S p : ℕ} {r : Record} (a : Asks b t S) (h
     },
   )
 
-  -- and the one after it
+  -- the record after it is that of the next slot
   pub next-is : {r′ : Record} → r′ ≡ recordOfSlot (t .states) (t .sets) (slotOf (t .states) (t .sets) r + 1) → RecordAt t (p + 1) r′
   next-is d =
       let q = ap (slotOf (t .states) (t .sets)) (h .1) ∙ slot-of-record (t .states) (t .sets) p in
