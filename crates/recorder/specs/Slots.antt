@@ -62,7 +62,7 @@ count-is : (n m : ℕ) → slotCount n m ≡ n * (n + 1) * 2 * 2 ^ m
 unfolding slotCount
 count-is n m = ap (λ (p : ℕ). n * (n + 1) * p) (two-halves m) ∙ sym (mul-assoc (n * (n + 1)) 2 (2 ^ m))
 
--- a slot number by its state: each state has as many slots
+-- a slot number by its state: a state has (n+1)·2^(m+1) slots
 pub slot-by-state : (n m : ℕ) (r : Record) → slotOf n m r ≡ r .s * (1 * (n + 1) * 2 ^ (m + 1)) + slotOf n m (record { s = 0; t = r .t; live = r .live; v = r .v })
 unfolding slotOf
 slot-by-state n m r = rw (two-halves m) (omega arith)

@@ -1,7 +1,7 @@
 -- The step from slot p along an edge, as the code takes it: once for a whole row, to state 0. Along an edge to s′ the slot is s′ times the slots of a
 -- state further on. Document 01, "The recorder": the slot number. Assumes nothing.
 use mathlib.Core.Path.{_≡_, sym, ap, ap₂, _∙_}
-use mathlib.Core.Bool.{Bool, true}
+use mathlib.Core.Bool.{Bool}
 use mathlib.Core.List.{List}
 use Prim.Native.Nat.{ℕ, _+_, _*_, _^_, _≤_, _<_}
 use native.Mathlib.Omega.{arith}
@@ -34,7 +34,7 @@ module _ {b : List ℕ} {t : Table} {S p : ℕ} {r : Record} (a : Asks b t S) (h
       let range : InRange (statesOf b) (setsOf b) (stepOf liveFlag (blockOf b) (at (blockOf b) p) 0 wish) = record { s-in = omega (arith, i .s-in); t-in = i .t-in; v-in = i .v-in } in
       (a .laid .states-to, omega (arith, a .laid .sets-to), rw (a .laid .states-are, a .laid .sets-are, zero-is) range)
 
-  -- x is its slot, and `each` as many as a state has
+  -- x is its slot, and a state has `each` slots
   pub along-slot : {x each : ℕ} → x ≡ slotOf (t .states) (t .sets) q → each ≡ 1 * (t .states + 1) * 2 ^ (t .sets + 1) → (s′ : ℕ) → s′ * each + x ≡ nextOf b p s′ wish
   unfolding blockOf
   along-slot {x} d e s′ =

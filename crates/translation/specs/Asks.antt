@@ -61,6 +61,7 @@ byte-small u = rw (byte-is-bit u) (go u)
     go true = omega arith
     go false = omega arith
 
+-- slot p and its record r
 module _ {b : List ℕ} {t : Table} {S p : ℕ} {r : Record} (a : Asks b t S) (h : (p < S) × RecordAt t p r) where
   pub slot-in : p < slotsOf b
   slot-in = omega (arith, a .slots-are)
@@ -83,7 +84,7 @@ module _ {b : List ℕ} {t : Table} {S p : ℕ} {r : Record} (a : Asks b t S) (h
     },
   )
 
-  -- and the one after it
+  -- the record after it is that of the next slot
   pub next-is : {r′ : Record} → r′ ≡ recordOfSlot (t .states) (t .sets) (slotOf (t .states) (t .sets) r + 1) → RecordAt t (p + 1) r′
   next-is d =
       let q = ap (slotOf (t .states) (t .sets)) (h .1) ∙ slot-of-record (t .states) (t .sets) p in

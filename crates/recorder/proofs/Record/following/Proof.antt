@@ -36,7 +36,7 @@ module _ (n m : ℕ) (r : Record) (ok : InRange n m r) where
         let d : r .t ≡ n = omega (arith, ok .t-in) in
         next-slot n m r _ (omega arith) (pow-pos m) (rw (e, d) (omega (arith, ok .v-in)))
 
--- the bits do not end, or end: 1 shifted by m is 2^m
+-- the code's limit of v is 2^m, and where v + 1 is not below it the bits end
 shift : (c : tie.Start) → 1 * 2 ^ c .args .m % 2 ^ 64 ≡ 2 ^ c .args .m
 shift c = one-shl (c .args .m) (omega arith)
 
