@@ -10,12 +10,14 @@ use Rattle.input.specs.declared.Part.the-variants.{Bytes as PartBytes, E
 use Rattle.input.specs.declared.Read.{Read}
 use Rattle.input.specs.declared.Read.the-variants.{Bytes, Failed}
 
+-- one read, into so much room
 abbrev pub PartCounts : Part → ℕ → Type 0
 PartCounts (PartBytes n) room = n ≤ room
 PartCounts End room = Unit
 PartCounts Interrupted room = Unit
 PartCounts PartFailed room = Unit
 
+-- all reads, into the buffer of 4,449 bytes
 abbrev pub ReadCounts : Read → Type 0
 ReadCounts (Bytes n) = n ≤ 4449
 ReadCounts Failed = Unit

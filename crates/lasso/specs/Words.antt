@@ -14,53 +14,59 @@ use Rattle.translation.specs.declared.Answer.the-variants.{Written, Refused as 
 use Rattle.stepping.specs.declared.Stepped.{Stepped}
 use Rattle.stepping.specs.declared.Stepped.the-variants.{Moved, Refused as StepRefused}
 
--- open: states, edges, sets
+-- open
 abbrev pub openNumber : Opened → ℕ
 openNumber (Accepted t) = 0
 openNumber (TableRefused why) = numberOf why
 
+-- the place of the refusal, or 0
 abbrev pub openPlace : Opened → ℕ
 openPlace (Accepted t) = 0
 openPlace (TableRefused why) = placeOf why
 
+-- place, states, edges, sets
 abbrev pub openWords : Opened → List ℕ
 openWords (Accepted t) = 0 ∷ t .states ∷ t .edges ∷ t .sets ∷ []
 openWords (TableRefused why) = placeOf why ∷ 0 ∷ 0 ∷ 0 ∷ []
 
--- quote: S, E, the translated length, the board, the members of sets 0 to 3
+-- quote
 abbrev pub quoteNumber : Quoted → ℕ
 quoteNumber q = openNumber (q .answer)
 
+-- place, S, E, the translated length, the board, the members of sets 0 to 3
 abbrev pub quoteWords : Quoted → List ℕ
 quoteWords q =
     let sheet = q .sheet in
     openPlace (q .answer) ∷ sheet .slots ∷ sheet .edges ∷ sheet .bytes ∷ sheet .board ∷ sheet .members
 
--- search: 1 for a lasso or 0 for holds, k, l
+-- search
 abbrev pub searchNumber : Searched → ℕ
 searchNumber (Lasso k l) = 0
 searchNumber Holds = 0
 searchNumber (SearchRefused why) = numberOf why
 
+-- place, 1 for a lasso or 0 for holds, k, l
 abbrev pub searchWords : Searched → List ℕ
 searchWords (Lasso k l) = 0 ∷ 1 ∷ k ∷ l ∷ []
 searchWords Holds = 0 ∷ 0 ∷ 0 ∷ 0 ∷ []
 searchWords (SearchRefused why) = placeOf why ∷ 0 ∷ 0 ∷ 0 ∷ []
 
--- translate: the bytes written
+-- translate
 abbrev pub translateNumber : Translated → ℕ
 translateNumber (Written size) = 0
 translateNumber (TranslateRefused why) = numberOf why
 
+-- place, how many bytes were written
 abbrev pub translateWords : Translated → List ℕ
 translateWords (Written size) = 0 ∷ size ∷ []
 translateWords (TranslateRefused why) = placeOf why ∷ 0 ∷ []
 
--- step: s, t, live, v of the next record
+-- step
 abbrev pub stepNumber : Stepped → ℕ
 stepNumber (Moved r) = 0
 stepNumber (StepRefused why) = numberOf why
 
+-- place, and s, t, live, v of the next record
 abbrev pub stepWords : Stepped → List ℕ
 stepWords (Moved r) = 0 ∷ r .s ∷ r .t ∷ bitOf (r .live) ∷ r .v ∷ []
 stepWords (StepRefused why) = placeOf why ∷ 0 ∷ 0 ∷ 0 ∷ 0 ∷ []

@@ -34,8 +34,8 @@ module _ {from to : ℕ} {w w′ : List ℕ} where
   pub puts-letter : (r : ℕ) → r < 8 → Puts (boardWord ++ ((65 + r) ∷ 10 ∷ [])) from w to w′ → Puts (boardLine r) from w to w′
   puts-letter r h p = let e = lt-ltb r 8 h in puts-as (rw e refl) p
 
-  pub puts-none : (r : ℕ) → 8 ≤ r → Puts (boardWord ++ noneWord ++ (10 ∷ [])) from w to w′ → Puts (boardLine r) from w to w′
-  puts-none r h p = let e = le-ltb r 8 h in puts-as (rw e refl) p
+  pub puts-no-board : (r : ℕ) → 8 ≤ r → Puts (boardWord ++ noneWord ++ (10 ∷ [])) from w to w′ → Puts (boardLine r) from w to w′
+  puts-no-board r h p = let e = le-ltb r 8 h in puts-as (rw e refl) p
 
   pub puts-refused : (why : Refusal) (number place : ℕ) → number ≡ numberOf why → place ≡ placeOf why
       → Puts (lineOf refusedWord (number ∷ place ∷ [])) from w to w′ → Puts (refusedLine why) from w to w′

@@ -1,7 +1,7 @@
 -- `lines::lines::board_line` meets its contract: a letter below 8, or `none`. Assumes nothing.
 use native.Mathlib.Omega.{arith}
 use Rattle.lines.specs.Puts.{puts-on}
-use Rattle.lines.specs.Laws.{puts-letter, puts-none}
+use Rattle.lines.specs.Laws.{puts-letter, puts-no-board}
 use borrow.Author.Needs.{needs}
 use Rattle.lines.proofs.lines.board_line.Statement.{statement}
 use Rattle.lines.proofs.lines.board_line.Tie as tie
@@ -50,7 +50,7 @@ returns-2 c =
     let p = c .before .before .put-text3 .ensures in
     let e = first .ends in
     let f = p .ends in
-    (puts-none (c .before .before .before .before .before .before .before .before .before .before .before .before .args .board) (omega arith) (puts-on first p), omega arith)
+    (puts-no-board (c .before .before .before .before .before .before .before .before .before .before .before .before .args .board) (omega arith) (puts-on first p), omega arith)
 
 pub board-line-spec : {M : Type 1} → statement M
 board-line-spec =
