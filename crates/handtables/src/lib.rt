@@ -1,0 +1,1 @@
+// No code: the twelve tables and their theorem stand in specs.

@@ -1,1 +1,2 @@
+-- What reading a table says. Assumes nothing.
 pub mod Counted

@@ -1,0 +1,1 @@
+// No code: the theory of searches stands in specs.

@@ -1,3 +1,4 @@
+-- The quote sheet. Assumes nothing.
 pub mod Sizes
 pub mod Boards
 pub mod Members

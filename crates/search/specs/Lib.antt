@@ -1,3 +1,4 @@
+-- The search's answer is Searched; the files before it are about the buffers and the scan, those after it bring both together. Assumes nothing.
 pub mod Workspace
 pub mod Meet
 pub mod Floor

@@ -1,1 +1,2 @@
+-- Beside the functions' own proofs: what a scan answers. Assumes nothing.
 pub mod Answers

@@ -1,3 +1,4 @@
+-- The table file and the refusal list, up to BlockOf, and then what follows from them, each file over the ones before it. Assumes nothing.
 pub mod First
 pub mod Scan
 pub mod Layout

@@ -1,3 +1,4 @@
+-- The translated table is File, what translating answers Translated; the rest follows from them. Assumes nothing.
 pub mod File
 pub mod Tests
 pub mod Counts

@@ -1,3 +1,4 @@
+-- `table::read::mark` meets its contract: the byte at the marks' offset and s. Assumes nothing.
 use mathlib.Core.Path.{ap₂}
 use Prim.Native.Nat.{ℕ, _+_}
 use denote.Ref.{now}

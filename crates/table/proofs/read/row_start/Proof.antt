@@ -1,3 +1,4 @@
+-- `table::read::row_start` meets its contract: the word at 28 and 4s. Assumes nothing.
 use Rattle.table.specs.Layout.{rowStart}
 use borrow.Author.Needs.{needs}
 use Rattle.table.proofs.read.row_start.Statement.{statement}

@@ -1,3 +1,4 @@
+-- `table::read::target` meets its contract: the word at the targets' offset and 4i. Assumes nothing.
 use mathlib.Core.Path.{ap, _∙_}
 use Prim.Native.Nat.{ℕ, _+_, _*_}
 use denote.Ref.{now}

@@ -1,3 +1,4 @@
+-- `table::read::word` meets its contract: four bytes, lowest first. Assumes nothing.
 use Rattle.table.specs.Layout.{wordAt}
 use borrow.Author.Needs.{needs}
 use Rattle.table.proofs.read.word.Statement.{statement}
