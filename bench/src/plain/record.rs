@@ -21,6 +21,36 @@ pub fn of_slot(parts: &Parts, slot: usize) -> Record {
     }
 }
 
+/// The record of the next slot: fairness bits, flag, saved state and state are counted on.
+#[inline]
+pub fn following(parts: &Parts, record: Record) -> Record {
+    let Record { s, t, live, v } = record;
+    if v + 1 < parts.fairness_values() {
+        Record { v: v + 1, ..record }
+    } else if !live {
+        Record { live: true, v: 0, ..record }
+    } else if t < parts.n {
+        Record {
+            s,
+            t: t + 1,
+            live: false,
+            v: 0,
+        }
+    } else {
+        Record {
+            s: s + 1,
+            t: 0,
+            live: false,
+            v: 0,
+        }
+    }
+}
+
+/// How many slots a state has.
+pub fn slots_of_a_state(parts: &Parts) -> usize {
+    (parts.n + 1) << (parts.m + 1)
+}
+
 /// The record of a start.
 pub fn start(parts: &Parts, s: usize) -> Record {
     Record {
