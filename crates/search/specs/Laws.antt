@@ -1,15 +1,17 @@
 -- Laws of a search: its answer line by line of the refusal list, and that its statement settles the answer and both buffers. Document 01, "Refusal
 -- list" and "Strength of the statements". Assumes nothing.
 use mathlib.Core.Path.{_≡_, refl, sym, ap, ap₂, _∙_}
-use mathlib.Core.List.{List, _++_}
+use mathlib.Core.Bool.{Bool}
+use mathlib.Core.List.{List, [], _∷_, _++_}
 use mathlib.Core.Option.{Option, none, some}
 use Prim.Native.Nat.{ℕ, _*_, _≤_, _<_}
 use native.Mathlib.Omega.{arith}
+use lib.Dec.{ltb}
 use lib.ListN.{length, drop}
 use borrow.Author.Tests.{lt-ltb, le-ltb}
 use Rattle.recorder.specs.Block.{Block, Sound}
 use Rattle.recorder.specs.Least.{least-of-block}
-use Rattle.table.specs.Open.{openOf}
+use Rattle.table.specs.Open.{given, firstGiven, openOf}
 use Rattle.table.specs.BlockOf.{blockOf}
 use Rattle.table.specs.WellFormed.{well-formed}
 use Rattle.table.specs.Sound.{sound}
@@ -37,18 +39,22 @@ module _ (b work report : List ℕ) where
   table-refused why o = refused-says why (rw o)
 
   module _ (t : Table) (o : openOf b ≡ Accepted t) where
-    pub short-workspace : length work < 2 * slotsOf b → SearchSays b work report (Refused ShortWorkspace) work report
+    -- the two lines, by what their tests give
+    lines-are : {u v : Bool} → ltb (length work) (2 * slotsOf b) ≡ u → ltb (length report) (slotsOf b) ≡ v
+        → refusalOf b work report ≡ firstGiven (given u ShortWorkspace ∷ given v ShortReport ∷ [])
     unfolding refusalOf searchLines
-    short-workspace h = refused-says ShortWorkspace (rw (o, lt-ltb (length work) (2 * slotsOf b) h))
+    lines-are p q = rw o (ap₂ (λ (u v : Bool). firstGiven (given u ShortWorkspace ∷ given v ShortReport ∷ [])) p q)
+
+    pub short-workspace : length work < 2 * slotsOf b → SearchSays b work report (Refused ShortWorkspace) work report
+    short-workspace h = refused-says ShortWorkspace (lines-are (lt-ltb _ _ h) refl)
 
     pub short-report : 2 * slotsOf b ≤ length work → length report < slotsOf b → SearchSays b work report (Refused ShortReport) work report
-    unfolding refusalOf searchLines
-    short-report g h = refused-says ShortReport (rw (o, le-ltb (length work) (2 * slotsOf b) g, lt-ltb (length report) (slotsOf b) h))
+    short-report g h = refused-says ShortReport (lines-are (le-ltb _ _ g) (lt-ltb _ _ h))
 
     pub finds : 2 * slotsOf b ≤ length work → slotsOf b ≤ length report → (a : Answer) (work′ report′ : List ℕ) → FindSays b work report a work′ report′
         → SearchSays b work report a work′ report′
-    unfolding SearchSays refusalOf searchLines
-    finds g h a work′ report′ f = rw (o, le-ltb (length work) (2 * slotsOf b) g, le-ltb (length report) (slotsOf b) h) f
+    unfolding SearchSays
+    finds g h a work′ report′ f = rw (lines-are (le-ltb _ _ g) (le-ltb _ _ h)) f
 
 -- ---- two results that meet the statement, answer and both buffers, are equal
 

@@ -2,7 +2,7 @@
 -- saved and two where nothing is, so that all rows together have E = e(n+2)·2^(m+1) targets and the file has 32 + 5S + 4E bytes. The rows are
 -- counted in three inductions: over the flags and bits of one state and one saved t, over the t, over the states. Assumes nothing.
 use mathlib.Core.Path.{_≡_, refl, ap, _∙_}
-use mathlib.Core.Bool.{Bool, true, false, cond}
+use mathlib.Core.Bool.{Bool, true, false}
 use mathlib.Core.Logic.{_⊎_, inl, inr}
 use mathlib.Core.List.{List, [], _∷_, _++_}
 use Prim.Native.Nat.{ℕ, zero, suc, _+_, _-_, _*_, _/_, _%_, _^_, _≤_, _<_}
@@ -19,7 +19,7 @@ use Rattle.recorder.specs.Slots.{slotCount, recordOfSlot}
 use Rattle.recorder.specs.SlotGraph.{at}
 use Rattle.table.specs.BlockOf.{blockOf}
 use Rattle.table.specs.Layout.{littleEndian, statesOf, edgesOf, setsOf, rowStart, target}
-use Rattle.table.specs.Recording.{slotsOf, fromOf, toOf, nextOf}
+use Rattle.table.specs.Recording.{slotsOf, fromOf, toOf}
 use Rattle.table.specs.WellFormed.{WellFormed}
 use Rattle.translation.specs.File.{alongOf, alongFrom, rowOf, targetsTo, listed, startOfRow, fileOf}
 
@@ -50,11 +50,11 @@ length-little (x ∷ xs) = omega (arith, length-little xs)
 
 -- along one edge: as many targets as the quote counts steps
 length-along : (b : List ℕ) (p s′ : ℕ) → length (alongOf b p s′) ≡ stepsOf (blockOf b .n) (at (blockOf b) p .t)
-length-along b p s′ = go (eqb (at (blockOf b) p .t) (blockOf b .n))
+length-along b p s′ = go (eqb (at (blockOf b) p .t) (blockOf b .n)) refl
   where
-    go : (u : Bool) → length (nextOf b p s′ true ∷ cond u (nextOf b p s′ false ∷ []) []) ≡ cond u 2 1
-    go true = refl
-    go false = refl
+    go : (u : Bool) → eqb (at (blockOf b) p .t) (blockOf b .n) ≡ u → length (alongOf b p s′) ≡ stepsOf (blockOf b .n) (at (blockOf b) p .t)
+    go true e = rw e
+    go false e = rw e
 
 -- along k edges
 length-along-from : (b : List ℕ) (p i k : ℕ) → length (alongFrom b p i k) ≡ k * stepsOf (blockOf b .n) (at (blockOf b) p .t)

@@ -8,6 +8,7 @@ use denote.Ref.{now}
 use borrow.Author.Needs.{needs}
 use Rattle.recorder.specs.Slots.{slotCount}
 use Rattle.table.specs.Recording.{slots-few}
+use Rattle.search.specs.Buffers.{cleared}
 use Rattle.search.specs.Climb.{pathBy, labelOf, path-to}
 use Rattle.search.specs.Find.{FindAsks, Told, starts-asked, scan-asked, rest-stays, seen-as, stopped-climbs, stopped-tells, says-lasso, says-holds, clears}
 use Rattle.search.specs.Scan.{Stopped}
@@ -20,6 +21,10 @@ asks : (c : tie.After-clear) → FindAsks (now (c .before .before .before .befor
     (c .before .before .before .before .before .args .slots) (now (c .before .before .before .before .before .args .work)) (now (c .before .before .before .before .before .args .report))
 asks c = c .before .before .before .before .before .pre
 
+-- the origins are cleared
+origins : (c : tie.After-clear) → c .clear .last .0 ≡ cleared (c .before .before .before .before .before .args .slots) (now (c .before .before .before .before .before .args .work))
+origins c = c .clear .ensures
+
 abbrev clear-of : tie.After-queue-starts → tie.After-clear
 clear-of c = c .before .before .before .before
 
@@ -29,7 +34,7 @@ starts-of c = c .before .before .before .before
 -- past 2S the workspace is as it came
 rest : (c : tie.After-scan) → let k = clear-of (starts-of c) in
     drop (2 * (k .before .before .before .before .before .args .slots)) (c .scan .last .1 .1 .0) ≡ drop (2 * (k .before .before .before .before .before .args .slots)) (now (k .before .before .before .before .before .args .work))
-rest c = let k = clear-of (starts-of c) in rest-stays _ _ _ _ (k .clear .ensures) (starts-of c .queue-starts .ensures) (c .scan .ensures)
+rest c = let k = clear-of (starts-of c) in rest-stays _ _ _ _ (origins k) (starts-of c .queue-starts .ensures) (c .scan .ensures)
 
 -- a bad slot was seen
 abbrev scan-of : tie.After-known-told → tie.After-scan
@@ -64,13 +69,13 @@ clear-requires : tie.Need-clear-requires
 clear-requires c κs = search needs
 
 queue-starts-requires : tie.Need-queue-starts-requires
-queue-starts-requires c κs = let k = c .before .before .before in starts-asked _ (asks k) (k .clear .ensures)
+queue-starts-requires c κs = let k = c .before .before .before in starts-asked _ (asks k) (origins k)
 
 scan-requires : tie.Need-scan-requires
 scan-requires c κs =
     let q = c .before .before .before in
     let k = clear-of q in
-    scan-asked (starts-asked _ (asks k) (k .clear .ensures)) (q .queue-starts .ensures)
+    scan-asked (starts-asked _ (asks k) (origins k)) (q .queue-starts .ensures)
 
 enum-known-seen : tie.Need-enum-known-seen
 enum-known-seen c = search needs

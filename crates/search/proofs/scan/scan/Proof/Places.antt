@@ -100,12 +100,12 @@ asks c = c .before .before .before .before .pre
 pub x-slot : (c : InQueue) → slotAt (slotsOf (bytes-at c)) (c .before .queue .work) (c .before .queue .head) ≡ x-at c
 x-slot c = ap (λ (S : ℕ). getD (c .before .queue .work) (S + c .before .queue .head) 0) (sym (asks c .slots-are))
 
-pub x-in : (c : InQueue) → x-at c < slotsOf (bytes-at c)
-x-in c = rw (x-slot c) at (c .before .queue .inv .kept .below (c .before .queue .head) (c .queue-test .taken))
-
 -- head stands in the queue, which is no longer than there are slots
 pub head-in : (c : InQueue) → c .before .queue .head < c .before .before .before .before .args .slots
 head-in c = omega (arith, c .queue-test .taken, kept-le _ _ _ (c .before .queue .inv .kept), asks c .slots-are)
+
+pub x-in : (c : InQueue) → x-at c < slotsOf (bytes-at c)
+x-in c = rw (x-slot c) at (c .before .queue .inv .kept .below (c .before .queue .head) (c .queue-test .taken))
 
 abbrev pub queue-of : Apart → InQueue
 queue-of c = c .before .before
