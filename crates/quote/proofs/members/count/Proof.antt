@@ -23,8 +23,10 @@ use Rattle.quote.proofs.members.count.Tie as tie
 abbrev holds : Block → ℕ → ℕ → Bool
 holds B i s = eqb (B .fair s / 2 ^ i % 2) 1
 
-record At (b : List ℕ) (n i found s : ℕ) : Type 0 where
+record At (b : List ℕ) (n i unit found s : ℕ) : Type 0 where
   pub to : s ≤ n
+  -- what the code divides by: the bit of set i
+  pub unit-is : unit ≡ 2 ^ i
   -- how many of the states before s set i holds
   pub counted : found ≡ countBelow s (holds (blockOf b) i)
   pub small : found ≤ s
@@ -36,20 +38,22 @@ bit-is (suc zero) h = refl
 bit-is (suc (suc x)) h = absurd (omega arith)
 
 -- one more state
-one-more : (b : List ℕ) (n i found s unit sets : ℕ) → At b n i found s → s < n → unit ≡ 2 ^ i → sets ≡ blockOf b .fair s → At b n i (found + sets / unit % 2) (s + 1)
+one-more : (b : List ℕ) (n i unit found s sets : ℕ) → At b n i unit found s → s < n → sets ≡ blockOf b .fair s → At b n i unit (found + sets / unit % 2) (s + 1)
 unfolding countBelow
-one-more b n i found s unit sets k h eu es =
+one-more b n i unit found s sets k h es =
     let P = holds (blockOf b) i in
+    let eu = k .unit-is in
     let bit : sets / unit % 2 < 2 = mod-lt _ (omega arith) in
     let same : sets / unit % 2 ≡ blockOf b .fair s / 2 ^ i % 2 = cc in
     record {
       to = omega arith;
+      unit-is = eu;
       counted = ap₂ _+_ (k .counted) (same ∙ bit-is _ (mod-lt _ (omega arith))) ∙ sym (ap (λ (j : ℕ). countBelow j P) (add-one s));
       small = omega (arith, k .small);
     }
 
 abbrev Inv-loop : tie.InvT-loop
-Inv-loop bytes t i n unit found₀ s₀ found s = At bytes n i found s
+Inv-loop bytes t i n unit found₀ s₀ found s = At bytes n i unit found s
 
 abbrev μ-loop : tie.MeasureT-loop
 μ-loop bytes t i n unit found₀ s₀ found s = n - s
@@ -59,13 +63,13 @@ shl-unit c = omega arith
 
 loop-holds : tie.Need-loop-holds Inv-loop μ-loop
 unfolding countBelow
-loop-holds c = record { to = omega arith; counted = refl; small = omega arith }
+loop-holds c = record { to = omega arith; unit-is = one-shl (c .before .args .i) (omega arith); counted = refl; small = omega arith }
 
 fair-requires : tie.Need-fair-requires Inv-loop μ-loop
 fair-requires c κs = mark-inside _ _ (c .before .before .before .pre .0) _ (c .loop-test .taken)
 
 div-found : tie.Need-div-found Inv-loop μ-loop
-div-found c = rw (one-shl (c .before .before .before .before .args .i) (omega arith)) (pow-pos (c .before .before .before .before .args .i))
+div-found c = omega (arith, c .before .before .loop .inv .unit-is, pow-pos (c .before .before .before .before .args .i))
 
 add-found : tie.Need-add-found Inv-loop μ-loop
 add-found c =
@@ -81,7 +85,7 @@ loop-less c = omega arith
 loop-again : tie.Need-loop-again Inv-loop μ-loop
 loop-again c =
     let a = c .before .before .before .before .args in
-    one-more (now (a .bytes)) _ _ _ _ _ _ (c .before .before .loop .inv) (c .before .loop-test .taken) (one-shl (a .i) (omega arith)) (c .fair .ensures)
+    one-more (now (a .bytes)) _ _ _ _ _ _ (c .before .before .loop .inv) (c .before .loop-test .taken) (c .fair .ensures)
 
 returns : tie.Need-returns Inv-loop μ-loop
 unfolding membersOf blockOf

@@ -6,6 +6,7 @@ use Prim.Native.Nat.{ℕ, suc, _-_, _≤_}
 use native.Mathlib.Numerals.{add-one}
 use native.Mathlib.Omega.{arith}
 use denote.Ref.{now}
+use lib.Dec.{eqb}
 use borrow.Author.Needs.{needs}
 use Rattle.table.specs.Layout.{statesOf, edgesOf, rowStart}
 use Rattle.table.specs.Open.{targetWrong}
@@ -48,7 +49,7 @@ wrong-in-row-requires c κs =
       p .0,
       (
         (omega (arith, p .1 .rows-rise (l .s) (omega arith), l .inv .from-is), omega (arith, row-starts-to b (p .1) (suc (l .s)) (omega arith))),
-        λ i f g. rw (l .inv .from-is) (first-opens b (p .1) (l .s) i (omega arith) (omega arith) (omega arith)),
+        λ i f g. first-opens b (p .1) (l .s) i (omega arith) (omega (arith, l .inv .from-is)) (omega arith) ∙ ap (eqb i) (sym (l .inv .from-is)),
       ),
     )
 

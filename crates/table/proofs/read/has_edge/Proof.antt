@@ -14,7 +14,7 @@ use Rattle.table.specs.BlockOf.{blockOf}
 use Rattle.table.specs.Facts.{fails-if-not-passes}
 use Rattle.table.specs.Rows.{row-starts-to}
 use Rattle.table.specs.Sound.{edge-is}
-use Rattle.table.specs.Scan.{Scanned, scan-begins, scan-goes-on}
+use Rattle.table.specs.Scan.{Scanned, scan-begins, scan-on, scan-goes-on}
 use Rattle.table.proofs.read.has_edge.Statement.{statement}
 use Rattle.table.proofs.read.has_edge.Tie as tie
 
@@ -43,7 +43,9 @@ loop-holds c =
     let a = c .before .before .before .args in
     let b = now (a .bytes) in
     let w = c .before .before .before .pre .0 in
-    rw (c .before .row-start .ensures) (scan-begins (w .rows .rows-rise (a .s) (omega arith)))
+    let rise = w .rows .rows-rise (a .s) (omega arith) in
+    let from-is = c .before .row-start .ensures in
+    scan-on _ (scan-begins rise) (omega arith) (omega arith) (λ j p q. absurd (omega arith))
 
 target-requires : tie.Need-target-requires Inv-loop μ-loop
 target-requires c κs =
