@@ -1,5 +1,6 @@
 -- `quote::sheet_of` meets its contract: each field is what the called function gives, and the sizes are small.
 -- Assumes nothing.
+use Prim.Native.Nat.{_*_, _^_, _≤_}
 use native.Mathlib.Omega.{arith}
 use borrow.Author.Needs.{needs}
 use Rattle.recorder.specs.Fits.{count-small}
@@ -26,29 +27,29 @@ count-requires-3 c κs = search needs
 count-requires-4 : tie.Need-count-requires-4
 count-requires-4 c κs = search needs
 
+-- the counts are small, so the sums and products of the length fit
+slots-small : (c : tie.After-count4) → c .before .before .before .before .before .slot-count .result ≤ 64 * 65 * 2 ^ 9
+slots-small c =
+    let d = c .before .before .before .before .before in
+    rw (d .slot-count .ensures) (count-small _ _ (d .before .before .pre .states-to) (omega (arith, d .before .before .pre .sets-to)))
+
+edge-count-small : (c : tie.After-count4) → c .before .before .before .before .edge-count .result ≤ 1024 * 66 * 2 ^ 9
+edge-count-small c =
+    let d = c .before .before .before .before in
+    let l = d .before .before .before .pre in
+    rw (d .edge-count .ensures) (edges-small _ _ _ (l .states-to) (l .edges-to) (omega (arith, l .sets-to)))
+
 mul-t9 : tie.Need-mul-t9
-mul-t9 c =
-    let l = c .before .before .before .before .before .before .before .pre in
-    let t = c .before .before .before .before .before .before .before .args .t in
-    omega (arith, count-small (t .states) (t .sets) (l .states-to) (omega arith), edges-small (t .states) (t .edges) (t .sets) (l .states-to) (l .edges-to) (omega arith))
+mul-t9 c = omega (arith, slots-small c, edge-count-small c)
 
 add-t10 : tie.Need-add-t10
-add-t10 c =
-    let l = c .before .before .before .before .before .before .before .pre in
-    let t = c .before .before .before .before .before .before .before .args .t in
-    omega (arith, count-small (t .states) (t .sets) (l .states-to) (omega arith), edges-small (t .states) (t .edges) (t .sets) (l .states-to) (l .edges-to) (omega arith))
+add-t10 c = omega (arith, slots-small c, edge-count-small c)
 
 mul-t11 : tie.Need-mul-t11
-mul-t11 c =
-    let l = c .before .before .before .before .before .before .before .pre in
-    let t = c .before .before .before .before .before .before .before .args .t in
-    omega (arith, count-small (t .states) (t .sets) (l .states-to) (omega arith), edges-small (t .states) (t .edges) (t .sets) (l .states-to) (l .edges-to) (omega arith))
+mul-t11 c = omega (arith, slots-small c, edge-count-small c)
 
 add-t12 : tie.Need-add-t12
-add-t12 c =
-    let l = c .before .before .before .before .before .before .before .pre in
-    let t = c .before .before .before .before .before .before .before .args .t in
-    omega (arith, count-small (t .states) (t .sets) (l .states-to) (omega arith), edges-small (t .states) (t .edges) (t .sets) (l .states-to) (l .edges-to) (omega arith))
+add-t12 c = omega (arith, slots-small c, edge-count-small c)
 
 first-with-room-requires : tie.Need-first-with-room-requires
 first-with-room-requires c κs = search needs
