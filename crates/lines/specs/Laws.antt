@@ -7,7 +7,6 @@ use Prim.Native.Nat.{ℕ, suc, _+_, _≤_, _<_}
 use native.Mathlib.Omega.{arith}
 use borrow.Author.Tests.{lt-ltb, le-ltb}
 use lib.ListN.{length, take, drop, length-append}
-use lib.Seq.{length-take-le}
 use Rattle.table.specs.Refusals.{numberOf, placeOf}
 use Rattle.table.specs.declared.Table.{Table}
 use Rattle.table.specs.declared.refusal.Refusal.{Refusal}
@@ -91,10 +90,6 @@ puts-not-written b out a why w r out′ e s p =
     rw (given, sym same) p
 
 -- ---- what is written is settled
-
--- the text is the first bytes of the buffer
-pub puts-fits : {text : List ℕ} {w : List ℕ} {to : ℕ} {w′ : List ℕ} → Puts text 0 w to w′ → to ≡ length (take to w′)
-puts-fits {text} {w} {to} {w′} p = let r = p .room in sym (length-take-le to w′ (omega (arith, puts-length p)))
 
 -- a text in a buffer, the buffer afterwards and the place after it
 pub puts-unique : {text : List ℕ} {from : ℕ} {w : List ℕ} {to to₁ : ℕ} {w′ w₁ : List ℕ} → Puts text from w to w′ → Puts text from w to₁ w₁ → (to ≡ to₁) × (w′ ≡ w₁)

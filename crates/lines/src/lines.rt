@@ -7,7 +7,6 @@ ghost use Rattle.lines.specs.Puts.{Puts};
 ghost use Rattle.lines.specs.Says.{RunFits};
 use super::put::put_line;
 use super::put::put_text;
-use super::put::put_words;
 use quote::Sheet;
 use search::Answer;
 use table::Refusal;
@@ -34,9 +33,15 @@ pub(crate) fn sheet_lines(out: &mut [u8], sheet: Sheet) -> usize
     ensures { λ r. ⌜ r ≤ 175 ⌝ }
 {
     let members = sheet.members;
-    let end = put_line(out, 0, b"size", &[sheet.slots, sheet.edges, sheet.bytes]);
+    let end = put_line(
+        out,
+        0,
+        b"size",
+        &[sheet.slots, sheet.edges, sheet.bytes],
+        &[],
+    );
     let end = board_line(out, end, sheet.board);
-    put_line(out, end, b"members", &members)
+    put_line(out, end, b"members", &members, &[])
 }
 
 // `refused`, number and place.
@@ -46,7 +51,7 @@ pub(crate) fn refused_line(out: &mut [u8], at: usize, why: Refusal) -> usize
 {
     let number = why.number() as usize;
     let place = why.place();
-    put_line(out, at, b"refused", &[number, place])
+    put_line(out, at, b"refused", &[number, place], &[])
 }
 
 // `lasso` and `run`, or `holds`, or `refused`.
@@ -58,8 +63,8 @@ pub(crate) fn answer_lines(out: &mut [u8], at: usize, answer: Answer, report: &[
     match answer {
         Answer::Lasso { k, l } => {
             let states: &[u32] = report;
-            let end = put_line(out, at, b"lasso", &[k, l]);
-            put_words(out, end, b"run", &states[..k + 1])
+            let end = put_line(out, at, b"lasso", &[k, l], &[]);
+            put_line(out, end, b"run", &[], &states[..k + 1])
         }
         Answer::Holds => put_text(out, at, b"holds\n"),
         Answer::Refused(why) => refused_line(out, at, why),

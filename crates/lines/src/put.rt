@@ -1,8 +1,8 @@
 // Writing text into a lent buffer, from a place on. Each function answers the place after what it wrote.
-ghost use Prim.Native.Nat.{_+_, _*_, _≤_};
+ghost use Prim.Native.Nat.{_+_, _*_, _≤_, _<_};
 ghost use mathlib.Core.Path.{_≡_};
-ghost use mathlib.Core.List.{_∷_};
-ghost use lib.ListN.{length};
+ghost use mathlib.Core.List.{_∷_, _++_};
+ghost use lib.ListN.{length, getD};
 ghost use Rattle.lines.specs.Text.{decimalOf, lineOf};
 ghost use Rattle.lines.specs.Puts.{Puts};
 
@@ -31,38 +31,35 @@ pub(crate) fn put_number(out: &mut [u8], at: usize, n: usize) -> usize
     put_text(out, at + 1, &digits[..k])
 }
 
-// Writes a line: the word, and each number after a space.
-pub(crate) fn put_line(out: &mut [u8], at: usize, word: &[u8], numbers: &[usize]) -> usize
-    requires { ⌜ at + length (now word) + 21 * length (now numbers) + 1 ≤ length (now out) ⌝ }
-    ensures { λ r. ⌜ Puts (lineOf (now (word .entry)) (now (numbers .entry))) at (now (out .entry)) r (now (out .exit)) ⌝ }
-    ensures { λ r. ⌜ r ≤ at + length (now (word .entry)) + 21 * length (now (numbers .entry)) + 1 ⌝ }
+// Number i of a line's numbers: first the few, and then the states.
+fn number_at(few: &[usize], states: &[u32], i: usize) -> usize
+    requires { ⌜ i < length (now few) + length (now states) ⌝ }
+    ensures { λ r. ⌜ r ≡ getD (now (few .entry) ++ now (states .entry)) i 0 ⌝ }
+{
+    if i < few.len() {
+        few[i]
+    } else {
+        states[i - few.len()] as usize
+    }
+}
+
+// Writes a line: the word, and after a space each of the few numbers and each state.
+pub(crate) fn put_line(
+    out: &mut [u8],
+    at: usize,
+    word: &[u8],
+    few: &[usize],
+    states: &[u32],
+) -> usize
+    requires { ⌜ at + length (now word) + 21 * (length (now few) + length (now states)) + 1 ≤ length (now out) ⌝ }
+    ensures { λ r. ⌜ Puts (lineOf (now (word .entry)) (now (few .entry) ++ now (states .entry))) at (now (out .entry)) r (now (out .exit)) ⌝ }
+    ensures { λ r. ⌜ r ≤ at + length (now (word .entry)) + 21 * (length (now (few .entry)) + length (now (states .entry))) + 1 ⌝ }
 {
     let mut end = put_text(out, at, word);
     let mut i = 0;
-    while i < numbers.len() {
-        end = put_number(out, end, numbers[i]);
+    while i < few.len() + states.len() {
+        end = put_number(out, end, number_at(few, states, i));
         i += 1;
     }
     put_text(out, end, b"\n")
-}
-
-// The same with words of 32 bits.
-pub(crate) fn put_words(out: &mut [u8], at: usize, word: &[u8], numbers: &[u32]) -> usize
-    requires { ⌜ at + length (now word) + 21 * length (now numbers) + 1 ≤ length (now out) ⌝ }
-    ensures { λ r. ⌜ Puts (lineOf (now (word .entry)) (now (numbers .entry))) at (now (out .entry)) r (now (out .exit)) ⌝ }
-    ensures { λ r. ⌜ r ≤ at + length (now (word .entry)) + 21 * length (now (numbers .entry)) + 1 ⌝ }
-{
-    let mut end = put_text(out, at, word);
-    let mut i = 0;
-    while i < numbers.len() {
-        end = put_number(out, end, wide(numbers[i]));
-        i += 1;
-    }
-    put_text(out, end, b"\n")
-}
-
-fn wide(x: u32) -> usize
-    ensures { λ r. ⌜ r ≡ x ⌝ }
-{
-    x as usize
 }

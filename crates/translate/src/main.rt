@@ -1,19 +1,19 @@
 // The program translate: reads a table from standard input and writes the translated table to standard output, or the `refused` line. Document 01, the
 // end of "Tables by hand". It only reads and writes; the bytes are made by lines::translate.
-use input::Read;
+ghost use mathlib.Core.Path.{_≡_};
+ghost use lib.ListN.{length};
 
-fn run(table: &mut [u8; 4449], out: &mut [u8; 65536]) {
-    let read = input::read_table(table);
-    let Read::Bytes(n) = read else {
-        os::fail(b"translate: standard input");
+fn run(table: &mut [u8; 4449], out: &mut [u8; 65536])
+    requires { ⌜ length (now out) ≡ 65536 ⌝ }
+{
+    let read = streams::read_table(table, b"translate: standard input");
+    if read.failed {
         return;
-    };
+    }
+    let n = read.count;
     let bytes: &[u8] = table;
     let end = lines::translate(&bytes[..n], out);
-    let written: &[u8] = out;
-    if !io::write_all(libc::STDOUT_FILENO, &written[..end]) {
-        os::fail(b"translate: standard output");
-    }
+    streams::write_first(out, end, b"translate: standard output");
 }
 
 fn main() {

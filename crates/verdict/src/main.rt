@@ -1,24 +1,24 @@
 // The program verdict: reads a table from standard input and prints its quote and its least lasso. Document 01, the end of "Tables by hand". It only
 // reads and writes; the text is made by lines::verdict.
-use input::Read;
+ghost use mathlib.Core.Path.{_≡_};
+ghost use lib.ListN.{length};
 
 fn run(
     table: &mut [u8; 4449],
     work: &mut [u32; 16384],
     report: &mut [u32; 8192],
     out: &mut [u8; 196608],
-) {
-    let read = input::read_table(table);
-    let Read::Bytes(n) = read else {
-        os::fail(b"verdict: standard input");
+)
+    requires { ⌜ length (now out) ≡ 196608 ⌝ }
+{
+    let read = streams::read_table(table, b"verdict: standard input");
+    if read.failed {
         return;
-    };
+    }
+    let n = read.count;
     let bytes: &[u8] = table;
     let end = lines::verdict(&bytes[..n], work, report, out);
-    let text: &[u8] = out;
-    if !io::write_all(libc::STDOUT_FILENO, &text[..end]) {
-        os::fail(b"verdict: standard output");
-    }
+    streams::write_first(out, end, b"verdict: standard output");
 }
 
 fn main() {

@@ -20,26 +20,32 @@ slice-aggregate-put-line c = search needs
 slice-aggregate-put-line-2 : tie.Need-slice-aggregate-put-line-2
 slice-aggregate-put-line-2 c = search needs
 
+slice-aggregate-put-line-3 : tie.Need-slice-aggregate-put-line-3
+slice-aggregate-put-line-3 c = search needs
+
 put-line-requires : tie.Need-put-line-requires
 put-line-requires c κs = search needs
 
-slice-aggregate-put-words : tie.Need-slice-aggregate-put-words
-slice-aggregate-put-words c = search needs
+slice-aggregate-put-line-4 : tie.Need-slice-aggregate-put-line-4
+slice-aggregate-put-line-4 c = search needs
+
+slice-aggregate-put-line-5 : tie.Need-slice-aggregate-put-line-5
+slice-aggregate-put-line-5 c = search needs
 
 -- the states of a lasso stand in the report's 8,192 words
 run-in : (c : tie.After-states) → let report = now (c .before .before .before .before .before .args .report) in (c .before .before .answer .given .0 .0 < length report) × (length report ≡ 8192)
 run-in c = (lasso-fits _ _ _ _ (c .before .before .answer .given .1) (c .before .before .before .before .before .pre .0), c .states .given .0)
 
-add-put-words : tie.Need-add-put-words
-add-put-words c = record { fits = omega (arith, run-in (c .before .before .before .before .before .before .before .before)) }
+add-put-line : tie.Need-add-put-line
+add-put-line c = record { fits = omega (arith, run-in (c .before .before .before .before .before .before .before .before .before .before)) }
 
-slice-aggregate-put-words-2 : tie.Need-slice-aggregate-put-words-2
-slice-aggregate-put-words-2 c = let r = run-in (c .before .before .before .before .before .before .before .before .before) in sym (length-take-le _ _ (omega arith))
+slice-aggregate-put-line-6 : tie.Need-slice-aggregate-put-line-6
+slice-aggregate-put-line-6 c = let r = run-in (c .before .before .before .before .before .before .before .before .before .before .before) in sym (length-take-le _ _ (omega arith))
 
-put-words-requires : tie.Need-put-words-requires
-put-words-requires c κs =
-    let s = c .before .before .before .before .before .before .before .before .before in
-    let first = c .before .before .before .before .before .put-line .ensures in
+put-line-requires-2 : tie.Need-put-line-requires-2
+put-line-requires-2 c κs =
+    let s = c .before .before .before .before .before .before .before .before .before .before .before in
+    let first = c .before .before .before .before .before .before .put-line .ensures in
     let r = run-in s in
     let pre = s .before .before .before .before .before .pre in
     let n = length-take-le (s .before .before .answer .given .0 .0 + 1) (now (s .before .before .before .before .before .args .report)) (omega arith) in
@@ -65,10 +71,10 @@ same-length c = search needs
 
 returns : tie.Need-returns
 returns c =
-    let s = c .before .before .before .before .before .before .before .before .before .before .before .before in
+    let s = c .before .before .before .before .before .before .before .before .before .before .before .before .before .before in
     let start = s .before .before .before .before .before in
     puts-lasso (start .args .answer) (now (start .args .report)) _ _ (s .before .before .answer .given .1)
-    (puts-on (c .before .before .before .before .before .before .before .before .put-line .ensures .0) (c .before .before .put-words .ensures .0))
+    (puts-on (c .before .before .before .before .before .before .before .before .before .put-line .ensures .0) (c .before .before .put-line2 .ensures .0))
 
 same-length-2 : tie.Need-same-length-2
 same-length-2 c = search needs
@@ -93,11 +99,13 @@ answer-lines-spec =
     enum-known-answer
     slice-aggregate-put-line
     slice-aggregate-put-line-2
+    slice-aggregate-put-line-3
     put-line-requires
-    slice-aggregate-put-words
-    add-put-words
-    slice-aggregate-put-words-2
-    put-words-requires
+    slice-aggregate-put-line-4
+    slice-aggregate-put-line-5
+    add-put-line
+    slice-aggregate-put-line-6
+    put-line-requires-2
     enum-told
     slice-aggregate-put-text
     put-text-requires

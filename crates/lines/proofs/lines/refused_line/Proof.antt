@@ -19,6 +19,9 @@ slice-aggregate-put-line c = search needs
 slice-aggregate-put-line-2 : tie.Need-slice-aggregate-put-line-2
 slice-aggregate-put-line-2 c = search needs
 
+slice-aggregate-put-line-3 : tie.Need-slice-aggregate-put-line-3
+slice-aggregate-put-line-3 c = search needs
+
 put-line-requires : tie.Need-put-line-requires
 put-line-requires c κs = search needs
 
@@ -28,9 +31,9 @@ same-length c = search needs
 returns : tie.Need-returns
 returns c =
     let p = c .before .before .put-line .ensures in
-    let place = c .before .before .before .before .before .before .place in
-    let number = c .before .before .before .before .before .before .before .number in
-    puts-refused (c .before .before .before .before .before .before .before .before .before .args .why) _ _ (number .ensures) (place .ensures) (p .0)
+    let place = c .before .before .before .before .before .before .before .place in
+    let number = c .before .before .before .before .before .before .before .before .number in
+    puts-refused (c .before .before .before .before .before .before .before .before .before .before .args .why) _ _ (number .ensures) (place .ensures) (p .0)
 
 pub refused-line-spec : {M : Type 1} → statement M
 refused-line-spec =
@@ -41,6 +44,7 @@ refused-line-spec =
     place-requires
     slice-aggregate-put-line
     slice-aggregate-put-line-2
+    slice-aggregate-put-line-3
     put-line-requires
     same-length
     returns)

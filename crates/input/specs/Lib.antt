@@ -1,2 +1,0 @@
--- What reading a table says. Assumes nothing.
-pub mod Counted

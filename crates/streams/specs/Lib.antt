@@ -1,0 +1,2 @@
+-- What is counted of a read, and that it fits. Assumes nothing.
+pub mod Counted
