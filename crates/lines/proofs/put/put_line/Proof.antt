@@ -11,6 +11,7 @@ use Rattle.lines.specs.Puts.{Puts, Begun, begun, begun-on, line-room, li
 use Rattle.lines.proofs.put.put_line.Statement.{statement}
 use Rattle.lines.proofs.put.put_line.Tie as tie
 
+-- the numbers before i were put after the word (`Begun`)
 abbrev Inv-loop : tie.InvT-loop
 Inv-loop out₀ at word few states end₀ i₀ t8 out end i = Begun (few ++ states) end₀ out₀ i end out
 
@@ -29,10 +30,12 @@ add-loop c = search needs
 number-at-requires : tie.Need-number-at-requires Inv-loop μ-loop
 number-at-requires c κs = search needs
 
+-- the word was put, at the place where the line begins
 word-put : (a : tie.At-loop Inv-loop μ-loop) → let s = a .before .before .before .before .before .before .before .before .before .args in let p = a .before .before .before .put-text in
     Puts (now (s .word)) (s .at) (now (s .out)) (p .result) (p .last .0)
 word-put a = a .before .before .before .put-text .ensures
 
+-- within the loop: the buffer is as long as it was, the text so far is short, and so many numbers are put in all
 room : (a : tie.At-loop Inv-loop μ-loop) → let s = a .before .before .before .before .before .before .before .before .before .args in
     (length (a .loop .out) ≡ length (now (s .out))) × (a .loop .end ≤ s .at + length (now (s .word)) + 21 * a .loop .i)
     × (length (now (s .few) ++ now (s .states)) ≡ length (now (s .few)) + length (now (s .states)))
@@ -56,6 +59,7 @@ slice-aggregate-put-text c = search needs
 put-text-requires-2 : tie.Need-put-text-requires-2 Inv-loop μ-loop
 put-text-requires-2 c κs = let a = c .before .before .before in omega (arith, room a, a .loop .inv .upto, a .before .before .before .before .before .before .before .before .before .pre)
 
+-- the whole line was put
 said : (c : tie.After-slice-known4 Inv-loop μ-loop) → let s = c .before .before .before .before .before .before .before .before .before .before .before .before .before .before .before .args in let p = c .before .before .put-text2 in
     Puts (lineOf (now (s .word)) (now (s .few) ++ now (s .states))) (s .at) (now (s .out)) (p .result) (p .last .0)
 said c = let a = c .before .before .before .before .before .before in line-done (word-put a) (a .loop .inv) (omega (arith, room a)) (c .before .before .put-text2 .ensures)
