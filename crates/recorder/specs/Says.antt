@@ -29,21 +29,21 @@ BadSays r m b = (B : Block) → B .m ≡ m → b ≡ badOf B r
 -- ---- each settles its answer: there is such a block
 
 -- a block of n states and m sets, with one goal mark and one number of bits for all its states
-blockOf : ℕ → ℕ → Bool → ℕ → Block
-blockOf n m goal fair = record { n = n; m = m; edge = λ s s′. false; start = λ s. false; goal = λ s. goal; fair = λ s. fair }
+blockWith : ℕ → ℕ → Bool → ℕ → Block
+blockWith n m goal fair = record { n = n; m = m; edge = λ s s′. false; start = λ s. false; goal = λ s. goal; fair = λ s. fair }
 
 pub start-unique : (s n : ℕ) (r r′ : Record) → StartSays s n r → StartSays s n r′ → r ≡ r′
-unfolding blockOf
-start-unique s n r r′ h h′ = let B = blockOf n 0 false 0 in h B refl ∙ sym (h′ B refl)
+unfolding blockWith
+start-unique s n r r′ h h′ = let B = blockWith n 0 false 0 in h B refl ∙ sym (h′ B refl)
 
 pub step-unique : (r : Record) (n : ℕ) (goal : Bool) (fair s′ : ℕ) (wish : Bool) (a b : Record)
     → StepSays r n goal fair s′ wish a → StepSays r n goal fair s′ wish b → a ≡ b
-unfolding blockOf
+unfolding blockWith
 step-unique r n goal fair s′ wish a b h h′ =
-    let B = blockOf n 0 goal fair in
+    let B = blockWith n 0 goal fair in
     let leaves : Leaves B r n goal fair = record { states = refl; goal-is = refl; fair-is = refl } in
     h B leaves ∙ sym (h′ B leaves)
 
 pub bad-unique : (r : Record) (m : ℕ) (a b : Bool) → BadSays r m a → BadSays r m b → a ≡ b
-unfolding blockOf
-bad-unique r m a b h h′ = let B = blockOf 0 m false 0 in h B refl ∙ sym (h′ B refl)
+unfolding blockWith
+bad-unique r m a b h h′ = let B = blockWith 0 m false 0 in h B refl ∙ sym (h′ B refl)

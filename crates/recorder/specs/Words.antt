@@ -4,7 +4,6 @@ use mathlib.Core.Path.{_≡_, refl, sym, ap, ap₂, _∙_}
 use mathlib.Core.Bool.{Bool, true, false, cond}
 use mathlib.Core.List.{List, [], _∷_, map}
 use Prim.Native.Nat.{ℕ, zero, suc, _+_, _*_, _<_}
-use native.Mathlib.Nat.{le-of-suc-le-suc}
 use native.Mathlib.Omega.{arith}
 use lib.Dec.{leb}
 use lib.ListN.{length, getD, drop}
@@ -13,7 +12,7 @@ use Rattle.recorder.specs.Block.{Block, Sound}
 use Rattle.recorder.specs.Lasso.{Run, state}
 use Rattle.recorder.specs.Flag.{Flag}
 use Rattle.recorder.specs.Ties.{parts}
-use Rattle.recorder.specs.Recorder.{RecordRun, Choice, place, Fits, earlier, recordAt, recordOf, strike, firstSaved, choiceOf, unsaved, number}
+use Rattle.recorder.specs.Recorder.{RecordRun, zeros, Choice, place, Fits, earlier, recordAt, recordOf, strike, firstSaved, choiceOf, unsaved, number}
 use Rattle.recorder.specs.Matching.{run-within, state-saved, recordAt-strike, length-recordAt}
 use Rattle.recorder.specs.Places.{placed, record-at, saved-before, saved-after, unsaved-n}
 use Rattle.recorder.specs.declared.Record.{Record}
@@ -37,10 +36,11 @@ choice-read B [] (r ∷ rs) e = absurd (omega (arith, ap length e))
 choice-read B (r ∷ rs) [] e = absurd (omega (arith, ap length e))
 choice-read B (r ∷ rs) (r′ ∷ rs′) e = read B rs rs′ (ap (drop 1) e) .1
 
-at-map : (f : Record → ℕ) (rs : List Record) (i : ℕ) → i < length rs → getD (map f rs) i 0 ≡ f (recordOf rs i)
-at-map f [] i h = absurd (omega arith)
-at-map f (r ∷ rs) zero h = refl
-at-map f (r ∷ rs) (suc i) h = at-map f rs i (le-of-suc-le-suc h)
+-- a place of a list that was mapped
+pub at-map : {A B : Type 0} (g : A → B) (l : List A) (i : ℕ) (d : A) (e : B) → i < length l → getD (map g l) i e ≡ g (getD l i d)
+at-map g [] i d e h = absurd (omega arith)
+at-map g (x ∷ l) zero d e h = refl
+at-map g (x ∷ l) (suc i) d e h = at-map g l i d e (omega arith)
 
 module _ (F : Flag) (B : Block) (ok : Sound B) where
   -- two runs of records with the same numbers are the same
@@ -53,7 +53,7 @@ module _ (F : Flag) (B : Block) (ok : Sound B) where
   -- the number at place i is 2·si, plus 1 where i ≤ l
   pub word-at : (ss : List ℕ) (l : ℕ) → Run B ss → Fits (place l) (length ss) → (i : ℕ) → i < length ss
       → getD (word B (recordAt F B ss (place l))) i 0 ≡ 2 * state ss i + cond (leb i l) 1 0
-  word-at ss l r f i h = at-map (number B) (recordAt F B ss (place l)) i (rw length-recordAt h) ∙ ap (number B) (record-at F B ss l in-n i h) ∙ go (leb i l) refl
+  word-at ss l r f i h = at-map (number B) (recordAt F B ss (place l)) i zeros 0 (rw length-recordAt h) ∙ ap (number B) (record-at F B ss l in-n i h) ∙ go (leb i l) refl
     where
       in-n : state ss l < B .n
       in-n = run-within B ok ss r l (omega arith)

@@ -7,7 +7,7 @@ use mathlib.Core.Logic.{_↔_}
 use mathlib.Core.List.{List, [], _∷_, map, map-map}
 use Prim.Native.Nat.{ℕ, zero, suc, _<_}
 use native.Mathlib.Omega.{arith}
-use lib.ListN.{length, getD, length-map}
+use lib.ListN.{length, length-map}
 use lib.Seq.{ext-getD}
 use Rattle.recorder.specs.Block.{Block, Sound}
 use Rattle.recorder.specs.Flag.{liveFlag}
@@ -17,6 +17,7 @@ use Rattle.recorder.specs.Slots.{InRange, slot-of-record, slot-below}
 use Rattle.recorder.specs.SlotGraph.{at, slot, at-start, at-next}
 use Rattle.recorder.specs.SlotRuns.{run-in-range, at-place, slot-step}
 use Rattle.recorder.specs.Bad.{IsLasso}
+use Rattle.recorder.specs.Words.{at-map}
 use Rattle.recorder.specs.Demand3.{demand3}
 use Rattle.recorder.specs.declared.Record.{Record}
 use Rattle.table.specs.Layout.{statesOf, setsOf}
@@ -65,12 +66,6 @@ pub record Translates (b F : List ℕ) : Type 0 where
   pub never : (ss : List ℕ) (c : Choice) → Run (blockOf b) ss → Fits c (length ss) → length ss ≡ 1 → badIn F (state (recording b ss c) 0) ≡ false
 
 -- ---- the proof
-
--- a place of a list that was mapped
-at-map : {A B : Type 0} (g : A → B) (l : List A) (i : ℕ) (d : A) (e : B) → i < length l → getD (map g l) i e ≡ g (getD l i d)
-at-map g [] i d e h = absurd (omega arith)
-at-map g (x ∷ l) zero d e h = refl
-at-map g (x ∷ l) (suc i) d e h = at-map g l i d e (omega arith)
 
 module _ (b : List ℕ) (f : WellFormed b) where
   abbrev B : Block
