@@ -6,27 +6,27 @@ use super::drawn;
 use super::print;
 
 // Puts the table and answers its length.
-pub fn table_a(file: &mut File) -> usize {
+pub(crate) fn table_a(file: &mut File) -> usize {
     drawn::draw(file, b"s01 12 23 g03", 0)
 }
 
 // Where row start s stands.
-pub fn row(s: usize) -> usize {
+pub(crate) fn row(s: usize) -> usize {
     builder::row_start_at(s)
 }
 
 // Where target i stands.
-pub fn target(i: usize) -> usize {
+pub(crate) fn target(i: usize) -> usize {
     builder::target_at(4, i)
 }
 
 // Where the marks of state s stand.
-pub fn mark(s: usize) -> usize {
+pub(crate) fn mark(s: usize) -> usize {
     builder::mark_at(4, 8, s)
 }
 
 // The first `len` bytes. Past the table the file has zeros.
-pub fn first_bytes(name: &[u8], len: usize) {
+pub(crate) fn first_bytes(name: &[u8], len: usize) {
     let mut file = [0u8; 4608];
     table_a(&mut file);
     print::text(name);
@@ -34,7 +34,7 @@ pub fn first_bytes(name: &[u8], len: usize) {
 }
 
 // The number at `at` is x.
-pub fn with(name: &[u8], at: usize, x: usize) {
+pub(crate) fn with(name: &[u8], at: usize, x: usize) {
     let mut file = [0u8; 4608];
     let len = table_a(&mut file);
     builder::put(&mut file, at, x);
@@ -43,7 +43,7 @@ pub fn with(name: &[u8], at: usize, x: usize) {
 }
 
 // The byte at `at` is x, and the byte at `at2` is x2.
-pub fn with_two(name: &[u8], at: usize, x: usize, at2: usize, x2: usize) {
+pub(crate) fn with_two(name: &[u8], at: usize, x: usize, at2: usize, x2: usize) {
     let mut file = [0u8; 4608];
     let len = table_a(&mut file);
     builder::put_byte(&mut file, at, x);

@@ -41,7 +41,7 @@ fn refused() {
     print::quoted(&file, len);
 }
 
-pub fn run() {
+pub(crate) fn run() {
     each_board();
     refused();
 }

@@ -27,27 +27,27 @@ fn cut(x: usize) -> usize
 }
 
 // The sum of two numbers that a table can hold.
-pub fn plus(a: usize, b: usize) -> usize {
+pub(crate) fn plus(a: usize, b: usize) -> usize {
     cut(a) + cut(b)
 }
 
 // Where row start s stands.
-pub fn row_start_at(s: usize) -> usize {
+pub(crate) fn row_start_at(s: usize) -> usize {
     28 + 4 * cut(s)
 }
 
 // Where target i stands.
-pub fn target_at(n: usize, i: usize) -> usize {
+pub(crate) fn target_at(n: usize, i: usize) -> usize {
     32 + 4 * cut(n) + 4 * cut(i)
 }
 
 // Where the marks of state s stand.
-pub fn mark_at(n: usize, e: usize, s: usize) -> usize {
+pub(crate) fn mark_at(n: usize, e: usize, s: usize) -> usize {
     32 + 4 * cut(n) + 4 * cut(e) + cut(s)
 }
 
 // The length of a table.
-pub fn length(n: usize, e: usize) -> usize {
+pub(crate) fn length(n: usize, e: usize) -> usize {
     32 + 5 * cut(n) + 4 * cut(e)
 }
 
@@ -55,14 +55,14 @@ fn low_byte(x: usize) -> u8 {
     (x % 256) as u8
 }
 
-pub fn put_byte(file: &mut File, at: usize, x: usize) {
+pub(crate) fn put_byte(file: &mut File, at: usize, x: usize) {
     if at < 4608 {
         file[at] = low_byte(x);
     }
 }
 
 // Puts a little-endian 32-bit number.
-pub fn put(file: &mut File, at: usize, x: usize) {
+pub(crate) fn put(file: &mut File, at: usize, x: usize) {
     if at < 4605 {
         file[at] = low_byte(x);
         file[at + 1] = low_byte(x / 256);
@@ -71,7 +71,7 @@ pub fn put(file: &mut File, at: usize, x: usize) {
     }
 }
 
-pub fn put_header(file: &mut File, n: usize, e: usize, m: usize) {
+pub(crate) fn put_header(file: &mut File, n: usize, e: usize, m: usize) {
     put(file, KIND, 1);
     put(file, STATES, n);
     put(file, EDGES, e);

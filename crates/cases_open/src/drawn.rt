@@ -67,7 +67,7 @@ fn put_part(file: &mut File, n: usize, e: usize, pen: Pen, c: u8) -> Pen {
 }
 
 // Puts the table of m sets and answers its length.
-pub fn draw(file: &mut File, drawing: &[u8], m: usize) -> usize {
+pub(crate) fn draw(file: &mut File, drawing: &[u8], m: usize) -> usize {
     let n = builder::plus(count(drawing, b' ', b' '), 1);
     let e = count(drawing, b'0', b'9');
     builder::put_header(file, n, e, m);

@@ -90,7 +90,7 @@ fn lengths() {
     first_bytes(b"length 85", 85);
 }
 
-pub fn run() {
+pub(crate) fn run() {
     short();
     kinds();
     states();

@@ -44,7 +44,7 @@ fn each_bit(m: usize, s: usize) {
 }
 
 // Each bit at the first and at the last state, with no sets, with two and with four; then all that may be set together, and all eight.
-pub fn run() {
+pub(crate) fn run() {
     each_bit(0, 0);
     each_bit(0, 3);
     each_bit(2, 0);

@@ -4,11 +4,11 @@ use libc::STDOUT_FILENO;
 use quote::Sheet;
 use table::Opened;
 
-pub fn text(words: &[u8]) {
+pub(crate) fn text(words: &[u8]) {
     io::write_all(STDOUT_FILENO, words);
 }
 
-pub fn number(x: usize) {
+pub(crate) fn number(x: usize) {
     text(b" ");
     io::print_decimal(STDOUT_FILENO, x as u64);
 }
@@ -63,14 +63,14 @@ fn quote_first(bytes: &[u8], len: usize) {
 }
 
 // The rest of a line that has its name: what opening the table answers.
-pub fn opened(file: &File, len: usize) {
+pub(crate) fn opened(file: &File, len: usize) {
     text(b":");
     open_first(file, len);
     text(b"\n");
 }
 
 // The rest of a line that has its name: the quote of the table.
-pub fn quoted(file: &File, len: usize) {
+pub(crate) fn quoted(file: &File, len: usize) {
     text(b":");
     quote_first(file, len);
     text(b"\n");

@@ -52,7 +52,7 @@ fn empty_rows() {
     opened(b"row 3 is empty, mark 0 is 5", b"sa01 12 23 g");
 }
 
-pub fn run() {
+pub(crate) fn run() {
     row_starts();
     targets();
     where_rows_part();

@@ -45,7 +45,7 @@ fn put_targets(file: &mut File, n: usize, from: usize, count: usize) {
 }
 
 // Puts the table and answers its length.
-pub fn spread(file: &mut File, n: usize, e: usize, m: usize) -> usize {
+pub(crate) fn spread(file: &mut File, n: usize, e: usize, m: usize) -> usize {
     builder::put_header(file, n, e, m);
     let mut from = 0;
     let mut s = 0;

@@ -30,7 +30,7 @@ fn last_four() {
     quoted(b"table l", b"s0", 4);
 }
 
-pub fn run() {
+pub(crate) fn run() {
     first_four();
     next_four();
     last_four();

@@ -30,7 +30,7 @@ fn one_line() {
     with_two(b"marks 3 and 1 are 64", mark(3), 64, mark(1), 64);
 }
 
-pub fn run() {
+pub(crate) fn run() {
     two_lines();
     one_line();
 }

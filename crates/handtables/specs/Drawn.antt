@@ -36,13 +36,13 @@ setBits s [] = 0
 setBits s (set ∷ sets) = bitIn s set + 2 * setBits s sets
 
 -- bit 0 start, bit 1 goal, the sets from bit 2 on
-abbrev pub markOf : Drawn → ℕ → ℕ
-markOf d s = bitIn s (d .starts) + 2 * bitIn s (d .goals) + 4 * setBits s (d .sets)
+abbrev pub drawnMark : Drawn → ℕ → ℕ
+drawnMark d s = bitIn s (d .starts) + 2 * bitIn s (d .goals) + 4 * setBits s (d .sets)
 
 -- the marks of the states from s on, one for each row
 abbrev pub marksFrom : Drawn → ℕ → List (List ℕ) → List ℕ
 marksFrom d s [] = []
-marksFrom d s (r ∷ rs) = markOf d s ∷ marksFrom d (suc s) rs
+marksFrom d s (r ∷ rs) = drawnMark d s ∷ marksFrom d (suc s) rs
 
 -- n, e and m
 abbrev pub states : Drawn → ℕ

@@ -39,16 +39,14 @@ pub extern "C" fn lasso_open(table: &[u8], answer: &mut [usize; 4]) -> u32
     ensures { λ r. ⌜ r ≡ openNumber (openOf (now (table .entry))) ⌝ }
     ensures { λ _. ⌜ now (answer .exit) ≡ openWords (openOf (now (table .entry))) ⌝ }
 {
-    match table::open(table) {
-        Opened::Accepted(t) => {
-            *answer = [0, t.states, t.edges, t.sets];
-            0
-        }
-        Opened::Refused(why) => {
-            *answer = [why.place(), 0, 0, 0];
-            why.number()
-        }
-    }
+    let opened = table::open(table);
+    let Opened::Accepted(t) = opened else {
+        let why = table::why(opened);
+        *answer = [why.place(), 0, 0, 0];
+        return why.number();
+    };
+    *answer = [0, t.states, t.edges, t.sets];
+    0
 }
 
 // Prices the table.

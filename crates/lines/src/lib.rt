@@ -19,14 +19,12 @@ pub fn verdict(
     let answer = search::search(table, work, report);
     let quoted = quote::quote(table);
     let opened = quoted.answer;
-    match opened {
-        Opened::Refused(why) => lines::refused_line(out, 0, why),
-        Opened::Accepted(_) => {
-            let sheet = quoted.sheet;
-            let end = lines::sheet_lines(out, sheet);
-            lines::answer_lines(out, end, answer, report)
-        }
-    }
+    let Opened::Accepted(_) = opened else {
+        return lines::refused_line(out, 0, table::why(opened));
+    };
+    let sheet = quoted.sheet;
+    let end = lines::sheet_lines(out, sheet);
+    lines::answer_lines(out, end, answer, report)
 }
 
 // What translate writes for the bytes of a table: the translated table, or the `refused` line. It stands at the start of the output, and the answer

@@ -11,9 +11,10 @@ use lib.ListN.{length, take}
 use lib.Seq.{getD-take, length-take-le}
 use borrow.Author.Tests.{eqb-true, eq-eqb, ne-eqb}
 use Rattle.recorder.specs.Block.{Block, Sound}
-use Rattle.recorder.specs.Lasso.{Run, FairLoop, Lasso, state}
+use Rattle.recorder.specs.Lasso.{Run, FairLoop, state}
 use Rattle.recorder.specs.Flag.{Flag, liveFlag, LassoBy, flagAt}
 use Rattle.recorder.specs.Recorder.{Choice, none, place, Fits, startOf, recordAt, recordOf, badOf}
+use Rattle.recorder.specs.Looped.{IsLasso}
 use Rattle.recorder.specs.Bits.{full}
 use Rattle.recorder.specs.Matching.{Within, run-within, state-recordAt, first-recordAt}
 use Rattle.recorder.specs.Places.{placed, record-at, saved-none, saved-after, bitsAt, Met, bits-lt, bits-met, met-bits}
@@ -35,7 +36,7 @@ bad-says B r = (go (eqb (r .s) (r .t)) (r .live) (eqb (r .v) (2 ^ B .m - 1)) ref
 not-bad : (B : Block) (r : Record) → r .s < B .n → r .t ≡ B .n → badOf B r ≡ false
 not-bad B r h e = rw (ne-eqb (r .s) (r .t) (λ p. omega arith))
 
--- a state was recorded, the last state is that state again, and the first k + 1 states, looped there, are a lasso of the row
+-- a state was recorded, the last state is that state again, and the first k + 1 states, looped there, are a lasso of the block by the flag
 abbrev pub Loops : Flag → Block → List ℕ → ℕ → Choice → Type 0
 Loops F B ss k none = ⊥
 Loops F B ss k (place l) = (state ss (suc k) ≡ state ss l) × LassoBy F B (take (suc k) ss) l
@@ -125,10 +126,6 @@ module _ (F : Flag) (B : Block) (ok : Sound B) (ss : List ℕ) (run : Run B ss) 
     ends-bad (place l) f = place-bad l (omega (arith, len))
 
 -- ---- document 01's flag: the loop is a lasso
-abbrev pub IsLasso : Block → List ℕ → ℕ → Choice → Type 0
-IsLasso B ss k none = ⊥
-IsLasso B ss k (place l) = (state ss (suc k) ≡ state ss l) × Lasso B (take (suc k) ss) l
-
 pub bad-is-lasso : (B : Block) → Sound B → (ss : List ℕ) → Run B ss → (k : ℕ) → length ss ≡ suc (suc k) → (c : Choice) → Fits c (length ss)
     → (badOf B (recordOf (recordAt liveFlag B ss c) (suc k)) ≡ true) ↔ IsLasso B ss k c
 bad-is-lasso B ok ss run k len c f = Iff·trans (ends-bad liveFlag B ok ss run k len c f) (go c)

@@ -12,8 +12,9 @@ use Rattle.recorder.specs.Block.{Block, Sound}
 use Rattle.recorder.specs.Lasso.{Run, state}
 use Rattle.recorder.specs.Flag.{liveFlag}
 use Rattle.recorder.specs.Recorder.{RecordRun, Choice, place, Fits, recordAt, recordOf, badOf}
+use Rattle.recorder.specs.Looped.{IsLasso}
 use Rattle.recorder.specs.Matching.{Matching, matching}
-use Rattle.recorder.specs.Bad.{IsLasso, bad-is-lasso, one-not-bad}
+use Rattle.recorder.specs.Bad.{bad-is-lasso, one-not-bad}
 use Rattle.recorder.specs.Words.{word, same-word, word-at}
 use Rattle.recorder.specs.declared.Record.{Record}
 

@@ -3,6 +3,7 @@ pub mod Block
 pub mod Lasso
 pub mod Flag
 pub mod Recorder
+pub mod Looped
 pub mod Slots
 pub mod Says
 pub mod Fits

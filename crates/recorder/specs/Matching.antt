@@ -11,7 +11,7 @@ use borrow.Author.Tests.{eq-eqb, ne-eqb}
 use Rattle.recorder.specs.Block.{Block, Sound}
 use Rattle.recorder.specs.Lasso.{Run, state}
 use Rattle.recorder.specs.Flag.{Flag}
-use Rattle.recorder.specs.Recorder.{RecordRun, StepTo, Choice, none, place, Fits, now, later, earlier, after, recordAt, recordOf, strike, firstSaved, choiceOf, startOf, stepOf, saveOf, unsaved, goalOf}
+use Rattle.recorder.specs.Recorder.{RecordRun, StepTo, Choice, none, place, Fits, wished, later, earlier, after, recordAt, recordOf, strike, firstSaved, choiceOf, startOf, stepOf, saveOf, unsaved, goalOf}
 use Rattle.recorder.specs.declared.Record.{Record}
 
 -- the states of ss are below n
@@ -28,7 +28,7 @@ state-saved B s h = ne-eqb s (B .n) (λ e. omega arith)
 
 -- the wish at place i
 abbrev pub wishAt : Choice → ℕ → Bool
-wishAt c zero = now c
+wishAt c zero = wished c
 wishAt c (suc i) = wishAt (later c) i
 
 module _ (F : Flag) (B : Block) where
@@ -98,16 +98,16 @@ module _ (F : Flag) (B : Block) where
   abbrev Steps : List Record → Type 0
   Steps rs = (i : ℕ) → suc i < length rs → StepTo F B (recordOf rs i) (recordOf rs (suc i))
 
-  now-earlier : (c : Choice) → now (earlier c) ≡ false
-  now-earlier none = refl
-  now-earlier (place l) = refl
+  wished-earlier : (c : Choice) → wished (earlier c) ≡ false
+  wished-earlier none = refl
+  wished-earlier (place l) = refl
 
   later-earlier : (c : Choice) → later (earlier c) ≡ c
   later-earlier none = refl
   later-earlier (place l) = refl
 
   -- one step of the way back
-  glue : (r r′ : Record) (rs : List Record) (c c′ : Choice) (w : Bool) → r′ ≡ stepOf F B r (r′ .s) w → now c ≡ w → later c ≡ c′
+  glue : (r r′ : Record) (rs : List Record) (c c′ : Choice) (w : Bool) → r′ ≡ stepOf F B r (r′ .s) w → wished c ≡ w → later c ≡ c′
       → after F B r′ (strike rs) c′ ≡ rs → after F B r (strike (r′ ∷ rs)) c ≡ r′ ∷ rs
   glue r r′ rs c c′ w e nc lc ih = cc
 
@@ -121,8 +121,8 @@ module _ (F : Flag) (B : Block) where
   read-saved r (r′ ∷ rs) c u st =
       let (w, e, p) = st 0 (omega arith) in
       let u′ : unsaved B (r′ .t) ≡ false = cc (keeps r w u) in
-      let q : r′ ≡ stepOf F B r (r′ .s) (now c) = cc (keeps r w u, keeps r (now c) u) in
-      glue r r′ rs c (later c) (now c) q refl refl (read-saved r′ rs (later c) u′ (λ i h. st (suc i) (suc-le-suc h)))
+      let q : r′ ≡ stepOf F B r (r′ .s) (wished c) = cc (keeps r w u, keeps r (wished c) u) in
+      glue r r′ rs c (later c) (wished c) q refl refl (read-saved r′ rs (later c) u′ (λ i h. st (suc i) (suc-le-suc h)))
 
   module _ (ok : Sound B) where
     read : (r : Record) (rs : List Record) → unsaved B (r .t) ≡ true → Steps (r ∷ rs) → after F B r (strike rs) (firstSaved B rs) ≡ rs
@@ -140,7 +140,7 @@ module _ (F : Flag) (B : Block) where
             glue r r′ rs (firstSaved B (r′ ∷ rs)) none true p (rw u′) (rw u′) (read-saved r′ rs none u′ rest)
         go false p ih =
             let u′ : unsaved B (r′ .t) ≡ true = cc in
-            glue r r′ rs (firstSaved B (r′ ∷ rs)) (firstSaved B rs) false p (rw u′ (now-earlier (firstSaved B rs))) (rw u′ (later-earlier (firstSaved B rs))) (ih u′ rest)
+            glue r r′ rs (firstSaved B (r′ ∷ rs)) (firstSaved B rs) false p (rw u′ (wished-earlier (firstSaved B rs))) (rw u′ (later-earlier (firstSaved B rs))) (ih u′ rest)
 
     -- recording what was struck out, at the place that the records show, gives the records back
     pub recordAt-strike : (rs : List Record) → RecordRun F B rs → recordAt F B (strike rs) (choiceOf B rs) ≡ rs

@@ -72,11 +72,11 @@ abbrev pub Fits : Choice → ℕ → Type 0
 Fits none len = Unit {0}
 Fits (place l) len = suc l < len
 
--- the choice says place 0; and the choice counted from the next place
-abbrev pub now : Choice → Bool
-now none = false
-now (place zero) = true
-now (place (suc l)) = false
+-- the wish at this place, on where the choice says place 0; and the choice counted from the next place
+abbrev pub wished : Choice → Bool
+wished none = false
+wished (place zero) = true
+wished (place (suc l)) = false
 
 abbrev pub later : Choice → Choice
 later none = none
@@ -92,7 +92,7 @@ earlier (place l) = place (suc l)
 module _ (F : Flag) (B : Block) where
   abbrev pub after : Record → List ℕ → Choice → List Record
   after r [] c = []
-  after r (s′ ∷ ss) c = stepOf F B r s′ (now c) ∷ after (stepOf F B r s′ (now c)) ss (later c)
+  after r (s′ ∷ ss) c = stepOf F B r s′ (wished c) ∷ after (stepOf F B r s′ (wished c)) ss (later c)
 
   abbrev pub recordAt : List ℕ → Choice → List Record
   recordAt [] c = []

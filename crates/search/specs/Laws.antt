@@ -12,6 +12,7 @@ use borrow.Author.Tests.{lt-ltb, le-ltb}
 use Rattle.recorder.specs.Block.{Block, Sound}
 use Rattle.recorder.specs.Least.{least-of-block}
 use Rattle.table.specs.Open.{given, firstGiven, openOf}
+use Rattle.table.specs.InOrder.{end, ByTheList, positionAfter, line, by-the-list}
 use Rattle.table.specs.BlockOf.{blockOf}
 use Rattle.table.specs.WellFormed.{well-formed}
 use Rattle.table.specs.Sound.{sound}
@@ -19,7 +20,7 @@ use Rattle.table.specs.declared.Table.{Table}
 use Rattle.table.specs.declared.Opened.{Opened}
 use Rattle.table.specs.declared.Opened.the-variants.{Accepted, Refused as TableRefused}
 use Rattle.table.specs.declared.refusal.Refusal.{Refusal}
-use Rattle.table.specs.declared.refusal.Refusal.the-variants.{ShortWorkspace, ShortReport}
+use Rattle.table.specs.declared.refusal.Refusal.the-variants.{WrongMark, ShortWorkspace, ShortReport}
 use Rattle.table.specs.Recording.{slotsOf}
 use Rattle.search.specs.Find.{FindSays}
 use Rattle.search.specs.Searched.{searchLines, refusalOf, AnswerSays, SearchFor, SearchSays}
@@ -55,6 +56,14 @@ module _ (b work report : List ℕ) where
         → SearchSays b work report a work′ report′
     unfolding SearchSays
     finds g h a work′ report′ f = rw (lines-are (le-ltb _ _ g) (le-ltb _ _ h)) f
+
+-- ---- its lines stand in the list's order, after the table's, and the first that is given is the refusal
+
+pub search-by-the-list : (b work report : List ℕ) → ByTheList b (searchLines (slotsOf b) work report) (refusalOf b work report)
+unfolding refusalOf searchLines
+search-by-the-list b work report =
+    let last = line (positionAfter ShortWorkspace) (ltb (length report) (slotsOf b)) ShortReport [] (omega arith) end in
+    by-the-list b _ (line (positionAfter (WrongMark 0)) (ltb (length work) (2 * slotsOf b)) ShortWorkspace _ (omega arith) last)
 
 -- ---- two results that meet the statement, answer and both buffers, are equal
 

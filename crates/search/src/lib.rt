@@ -47,11 +47,7 @@ pub fn search(bytes: &[u8], work: &mut [u32], report: &mut [u32]) -> Answer
 {
     let answer = table::open(bytes);
     let Opened::Accepted(t) = answer else {
-        return match answer {
-            Opened::Refused(why) => Answer::Refused(why),
-            // Not reached: the table was not accepted.
-            Opened::Accepted(_) => Answer::Refused(Refusal::TooShort),
-        };
+        return Answer::Refused(table::why(answer));
     };
     let slots = recorder::slot_count(t.states, t.sets);
     if work.len() < 2 * slots {

@@ -1,17 +1,19 @@
 -- Laws of a step. Document 01, "The recorder", "Refusal list" and "Strength of the statements": the answer line by line, that the statement
 -- settles it, and that a record that moved is in range and went along an edge. Assumes nothing.
 use mathlib.Core.Path.{_≡_, refl, sym, _∙_}
-use mathlib.Core.Bool.{Bool, true, false, true≢false}
+use mathlib.Core.Bool.{Bool, true, false, not, true≢false}
 use mathlib.Core.Logic.{_↔_, Iff·rfl}
-use mathlib.Core.List.{List}
+use mathlib.Core.List.{List, []}
 use Prim.Native.Nat.{ℕ, _^_, _≤_, _<_}
+use native.Mathlib.Omega.{arith}
 use Rattle.order.specs.Settled.{settled}
 use Rattle.recorder.specs.Flag.{liveFlag}
 use Rattle.recorder.specs.Recorder.{stepOf}
 use Rattle.recorder.specs.Slots.{slotCount, slotOf, InRange}
 use Rattle.recorder.specs.Successors.{step-below}
 use Rattle.recorder.specs.declared.Record.{Record}
-use Rattle.table.specs.Open.{openOf}
+use Rattle.table.specs.Open.{openOf, refusalFor}
+use Rattle.table.specs.InOrder.{end, ByTheList, positionAfter, line, by-the-list}
 use Rattle.table.specs.BlockOf.{blockOf}
 use Rattle.table.specs.Facts.{facts}
 use Rattle.table.specs.WellFormed.{well-formed, laid}
@@ -20,7 +22,7 @@ use Rattle.table.specs.declared.Table.{Table}
 use Rattle.table.specs.declared.Opened.{Opened}
 use Rattle.table.specs.declared.Opened.the-variants.{Accepted, Refused as TableRefused}
 use Rattle.table.specs.declared.refusal.Refusal.{Refusal}
-use Rattle.table.specs.declared.refusal.Refusal.the-variants.{WrongRecord, NoEdge}
+use Rattle.table.specs.declared.refusal.Refusal.the-variants.{WrongMark, WrongRecord, NoEdge}
 use Rattle.stepping.specs.Step.{recordFits, stepLines, steppedOf}
 use Rattle.stepping.specs.declared.Stepped.{Stepped}
 use Rattle.stepping.specs.declared.Stepped.the-variants.{Moved, Refused}
@@ -85,6 +87,13 @@ module _ (b : List ℕ) (r : Record) (s′ : ℕ) (wish : Bool) where
       go (Accepted t) o = tests t o _ refl _ refl
 
   -- ---- what a reader may count on
+
+  -- its lines stand in the list's order, after the table's, and the first that is given is the refusal
+  pub step-by-the-list : ByTheList b (stepLines (blockOf b) r s′) (refusalFor (openOf b) (stepLines (blockOf b) r s′))
+  unfolding stepLines
+  step-by-the-list =
+      let last = line (positionAfter WrongRecord) (not (blockOf b .edge (r .s) s′)) NoEdge [] (omega arith) end in
+      by-the-list b _ (line (positionAfter (WrongMark 0)) (not (recordFits (blockOf b .n) (blockOf b .m) r s′)) WrongRecord _ (omega arith) last)
 
   -- two answers that meet the statement of `step` are equal
   pub step-settled : (a a′ : Stepped) → a ≡ steppedOf b r s′ wish → a′ ≡ steppedOf b r s′ wish → a ≡ a′

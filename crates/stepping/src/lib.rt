@@ -26,11 +26,7 @@ pub fn step(bytes: &[u8], r: Record, next: usize, wish: bool) -> Stepped
 {
     let answer = table::open(bytes);
     let Opened::Accepted(t) = answer else {
-        return match answer {
-            Opened::Refused(why) => Stepped::Refused(why),
-            // Not reached: the table was not accepted.
-            Opened::Accepted(_) => Stepped::Refused(Refusal::TooShort),
-        };
+        return Stepped::Refused(table::why(answer));
     };
     let n = t.states;
     let s = r.s;

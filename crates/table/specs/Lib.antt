@@ -4,6 +4,7 @@ pub mod Scan
 pub mod Layout
 pub mod Refusals
 pub mod Open
+pub mod InOrder
 pub mod BlockOf
 pub mod Bits
 pub mod Facts

@@ -94,3 +94,8 @@ answerOf b (some r) = Refused r
 -- what opening the bytes answers
 unfoldable pub openOf : List ℕ → Opened
 openOf b = answerOf b (firstGiven (linesOf b))
+
+-- the refusal of an answer that is one; no job asks it of an accepted table
+abbrev pub whyOf : Opened → Refusal
+whyOf (Refused r) = r
+whyOf (Accepted t) = TooShort

@@ -12,7 +12,7 @@ use Rattle.order.specs.Settled.{settled}
 use Rattle.recorder.specs.Block.{HasBit}
 use Rattle.table.specs.First.{firstIn, first-none}
 use Rattle.table.specs.Layout.{kindOf, statesOf, edgesOf, setsOf, rowsOffset, targetsOffset, marksOffset, rowsAt, targetsAt, marksAt, lengthOf, tableOf, rowStart, target, mark}
-use Rattle.table.specs.Open.{rowEmpty, markWrong, given, givenAt, linesOf, firstGiven, answerOf, openOf}
+use Rattle.table.specs.Open.{rowEmpty, markWrong, given, givenAt, linesOf, firstGiven, answerOf, openOf, whyOf}
 use Rattle.table.specs.Bits.{low-bits}
 use Rattle.table.specs.Facts.{facts}
 use Rattle.table.specs.LaidOut.{LaidOut, counts-right, layout-right}
@@ -21,7 +21,7 @@ use Rattle.table.specs.Targets.{targets-right}
 use Rattle.table.specs.declared.Table.{Table}
 use Rattle.table.specs.declared.refusal.Refusal.{Refusal}
 use Rattle.table.specs.declared.Opened.{Opened}
-use Rattle.table.specs.declared.Opened.the-variants.{Accepted}
+use Rattle.table.specs.declared.Opened.the-variants.{Accepted, Refused}
 
 pub record WellFormed (b : List ℕ) : Type 0 where
   pub header : 28 ≤ length b
@@ -121,3 +121,7 @@ laid b t e =
 -- what `open` says settles its answer
 pub open-settled : (b : List ℕ) (x y : Opened) → x ≡ openOf b → y ≡ openOf b → x ≡ y
 open-settled b x y p q = settled p q
+
+-- an answer of opening that is a refusal, of which `why` gave r, is the refusal r
+pub why-is : (x : Opened) (r r′ : Refusal) → x ≡ Refused r′ → r ≡ whyOf x → x ≡ Refused r
+why-is x r r′ q e = cc

@@ -7,12 +7,11 @@ pub use read::fair;
 pub use read::has_edge;
 pub use read::has_goal;
 pub use read::is_start;
-pub use read::mark;
 pub use read::row_start;
 pub use read::target;
 pub use refusal::Refusal;
 ghost use mathlib.Core.Path.{_≡_};
-ghost use Rattle.table.specs.Open.{openOf};
+ghost use Rattle.table.specs.Open.{openOf, whyOf};
 use faults::Found;
 
 // What an accepted table counts: n states, e edges, m fairness sets.
@@ -26,6 +25,17 @@ pub struct Table {
 pub enum Opened {
     Accepted(Table),
     Refused(Refusal),
+}
+
+// The refusal of a table that is not accepted. Each entry calls this in the `else` of its `let .. else`.
+pub fn why(answer: Opened) -> Refusal
+    ensures { λ r. ⌜ r ≡ whyOf answer ⌝ }
+{
+    match answer {
+        Opened::Refused(r) => r,
+        // Not reached from an entry: there the accepted tables were taken before.
+        Opened::Accepted(_) => Refusal::TooShort,
+    }
 }
 
 // Accepts or refuses the bytes.

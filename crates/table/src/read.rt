@@ -43,7 +43,7 @@ pub fn target(bytes: &[u8], t: Table, i: usize) -> usize
 }
 
 // The marks of state s.
-pub fn mark(bytes: &[u8], t: Table, s: usize) -> u8
+pub(crate) fn mark(bytes: &[u8], t: Table, s: usize) -> u8
     requires { ⌜ MarkInside (now bytes) t s ⌝ }
     ensures { λ r. ⌜ r ≡ markOf (now (bytes .entry)) s ⌝ }
 {

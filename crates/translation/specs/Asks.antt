@@ -24,7 +24,7 @@ use Rattle.table.specs.Row.{row-some, row-to}
 use Rattle.table.specs.Recording.{slotsOf, stateOf, fromOf, toOf, slots-few, state-in, block-states, block-sets, startSlot, made-range, made-slot}
 use Rattle.table.specs.declared.Table.{Table}
 use Rattle.translation.specs.Counts.{length-row, starts-to}
-use Rattle.translation.specs.File.{rowOf, startOfRow, isStart, markOf}
+use Rattle.translation.specs.File.{rowOf, startOfRow, isStart, slotMark}
 
 pub record Asks (b : List ℕ) (t : Table) (S : ℕ) : Type 0 where
   pub formed : WellFormed b
@@ -136,8 +136,8 @@ module _ {b : List ℕ} {t : Table} {S p : ℕ} {r : Record} (a : Asks b t S) (h
 
     -- its mark
     pub mark-is : {x : ℕ} {start goal bad : Bool} → x ≡ slotOf (t .states) (t .sets) first → start ≡ blockOf b .start (r .s) → goal ≡ blockOf b .goal (r .s)
-        → BadSays r (t .sets) bad → boolByte (start && eqb p x) + 2 * boolByte goal + 64 * boolByte bad ≡ markOf b p
-    unfolding markOf isStart
+        → BadSays r (t .sets) bad → boolByte (start && eqb p x) + 2 * boolByte goal + 64 * boolByte bad ≡ slotMark b p
+    unfolding slotMark isStart
     mark-is q es eg eb =
         let es′ = es ∙ ap (λ (r : Record). blockOf b .start (r .s)) record-is in
         let eg′ = eg ∙ ap (λ (r : Record). blockOf b .goal (r .s)) record-is in

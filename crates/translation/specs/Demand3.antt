@@ -16,7 +16,7 @@ use Rattle.recorder.specs.Recorder.{RecordRun, StepTo, Choice, Fits, zeros, rec
 use Rattle.recorder.specs.Slots.{InRange, slot-of-record, slot-below}
 use Rattle.recorder.specs.SlotGraph.{at, slot, at-start, at-next}
 use Rattle.recorder.specs.SlotRuns.{run-in-range, at-place, slot-step}
-use Rattle.recorder.specs.Bad.{IsLasso}
+use Rattle.recorder.specs.Looped.{IsLasso}
 use Rattle.recorder.specs.Words.{at-map}
 use Rattle.recorder.specs.Demand3.{demand3}
 use Rattle.recorder.specs.declared.Record.{Record}

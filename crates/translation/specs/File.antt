@@ -49,8 +49,8 @@ unfoldable pub isStart : List ℕ → ℕ → Bool
 isStart b p = blockOf b .start (stateOf b p) && eqb p (slot (blockOf b) (startOf liveFlag (blockOf b) (stateOf b p)))
 
 -- bit 0 start, bit 1 the goal mark of s, bit 6 bad
-unfoldable pub markOf : List ℕ → ℕ → ℕ
-markOf b p = bitOf (isStart b p) + 2 * bitOf (blockOf b .goal (stateOf b p)) + 64 * bitOf (badOf (blockOf b) (at (blockOf b) p))
+unfoldable pub slotMark : List ℕ → ℕ → ℕ
+slotMark b p = bitOf (isStart b p) + 2 * bitOf (blockOf b .goal (stateOf b p)) + 64 * bitOf (badOf (blockOf b) (at (blockOf b) p))
 
 -- ---- the file
 
@@ -62,4 +62,4 @@ headerOf S E = 2 ∷ S ∷ E ∷ 0 ∷ rowsAt ∷ targetsAt S ∷ marksAt S E �
 unfoldable pub fileOf : List ℕ → List ℕ
 fileOf b =
     let S = slotsOf b in
-    littleEndian (headerOf S (startOfRow b S)) ++ littleEndian (listed (startOfRow b) (suc S)) ++ littleEndian (targetsTo b S) ++ listed (markOf b) S
+    littleEndian (headerOf S (startOfRow b S)) ++ littleEndian (listed (startOfRow b) (suc S)) ++ littleEndian (targetsTo b S) ++ listed (slotMark b) S

@@ -1,24 +1,26 @@
 -- Laws of a translation: its answer line by line of the refusal list, its output part by part, and that its statement settles both. Document 01,
 -- "Refusal list" and "Strength of the statements". Assumes nothing.
 use mathlib.Core.Path.{_≡_, refl, sym, ap, _∙_}
-use mathlib.Core.List.{List, _++_}
+use mathlib.Core.List.{List, [], _++_}
 use mathlib.Core.Option.{Option, none, some}
 use Prim.Native.Nat.{ℕ, suc, _+_, _-_, _*_, _^_, _≤_, _<_}
 use native.Mathlib.Omega.{arith}
+use lib.Dec.{ltb}
 use lib.ListN.{length, take, drop, length-append}
 use borrow.Author.Tests.{lt-ltb, le-ltb}
 use Rattle.recorder.specs.Fits.{count-small}
 use Rattle.quote.specs.Sizes.{edgeCount, edges-small}
 use Rattle.table.specs.Layout.{littleEndian, statesOf, edgesOf, setsOf}
 use Rattle.table.specs.Open.{openOf}
+use Rattle.table.specs.InOrder.{end, ByTheList, positionAfter, line, by-the-list}
 use Rattle.table.specs.WellFormed.{WellFormed}
 use Rattle.table.specs.LaidOut.{LaidOut}
 use Rattle.table.specs.declared.Table.{Table}
 use Rattle.table.specs.declared.Opened.the-variants.{Accepted, Refused as TableRefused}
 use Rattle.table.specs.declared.refusal.Refusal.{Refusal}
-use Rattle.table.specs.declared.refusal.Refusal.the-variants.{ShortOutput}
+use Rattle.table.specs.declared.refusal.Refusal.the-variants.{WrongMark, ShortOutput}
 use Rattle.table.specs.Recording.{slotsOf}
-use Rattle.translation.specs.File.{headerOf, listed, startOfRow, targetsTo, markOf, fileOf}
+use Rattle.translation.specs.File.{headerOf, listed, startOfRow, targetsTo, slotMark, fileOf}
 use Rattle.translation.specs.Counts.{length-little, length-listed, all-targets, length-file}
 use Rattle.translation.specs.Placed.{placed, length-placed, part-length, part-on}
 use Rattle.translation.specs.Translated.{sizeOf, translateLines, refusalOf, TranslateFor, TranslateSays}
@@ -47,6 +49,11 @@ module _ (b out : List ℕ) where
     translated h size e out′ d f =
         let l : 0 + length (fileOf b) ≡ sizeOf b = omega (arith, length-file b f) in
         rw (o, le-ltb (length out) (sizeOf b) h) (ap Written e, d ∙ ap (λ (k : ℕ). fileOf b ++ drop k out) l)
+
+-- its line stands in the list's order, after the table's, and the first that is given is the refusal
+pub translate-by-the-list : (b out : List ℕ) → ByTheList b (translateLines (sizeOf b) out) (refusalOf b out)
+unfolding refusalOf translateLines
+translate-by-the-list b out = by-the-list b _ (line (positionAfter (WrongMark 0)) (ltb (length out) (sizeOf b)) ShortOutput [] (omega arith) end)
 
 -- two results that meet the statement, answer and output, are equal
 pub translate-unique : (b out : List ℕ) (a a′ : Answer) (w w′ : List ℕ) → TranslateSays b out a w → TranslateSays b out a′ w′ → (a ≡ a′) × (w ≡ w′)
@@ -95,7 +102,7 @@ module _ {b : List ℕ} {S E : ℕ} (k : Counted b S E) where
     targets = littleEndian (targetsTo b S)
 
     abbrev marks : List ℕ
-    marks = listed (markOf b) S
+    marks = listed (slotMark b) S
 
     -- how long they are
     rows-length : length (header ++ rows) ≡ 32 + 4 * S
@@ -136,7 +143,7 @@ module _ {b : List ℕ} {S E : ℕ} (k : Counted b S E) where
       unfolding fileOf
       marks-there e =
           let there =
-          part-on (32 + 4 * S + 4 * E) (32 + 4 * S + 4 * E + S) (header ++ rows ++ targets) marks out p targets-length (omega (arith, length-listed (markOf b) S)) (omega arith) room in
+          part-on (32 + 4 * S + 4 * E) (32 + 4 * S + 4 * E + S) (header ++ rows ++ targets) marks out p targets-length (omega (arith, length-listed (slotMark b) S)) (omega arith) room in
           rw e there
           ∙ ap (λ (E : ℕ). placed 0 (littleEndian (headerOf S E) ++ rows ++ targets ++ marks) out) (sym targets-are)
           ∙ rw (k .slots-are)

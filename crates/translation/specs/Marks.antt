@@ -22,7 +22,7 @@ use Rattle.table.specs.BlockOf.{blockOf}
 use Rattle.table.specs.WellFormed.{WellFormed}
 use Rattle.table.specs.Sound.{sound}
 use Rattle.table.specs.Recording.{slotsOf, graphOf, stateOf, block-states, start-below}
-use Rattle.translation.specs.File.{isStart, markOf, fileOf}
+use Rattle.translation.specs.File.{isStart, slotMark, fileOf}
 use Rattle.translation.specs.Counts.{all-targets, length-file}
 use Rattle.translation.specs.ReadBack.{states-read, edges-read, mark-read}
 
@@ -100,7 +100,7 @@ module _ (b : List ℕ) (f : WellFormed b) where
     bad = badOf (blockOf b) (at (blockOf b) p)
 
     bits : mark F p ≡ bitOf (isStart b p) + 2 * bitOf goal + 64 * bitOf bad
-    unfolding markOf
+    unfolding slotMark
     bits = mark-read b f p p-in
 
     pub start-mark : blockOf F .start p ≡ isStart b p

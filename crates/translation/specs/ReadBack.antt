@@ -15,7 +15,7 @@ use Rattle.table.specs.WellFormed.{WellFormed}
 use Rattle.table.specs.Sound.{edge-is}
 use Rattle.table.specs.Recording.{slotsOf, graphOf, slots-few}
 use Rattle.quote.specs.Sizes.{edges-small}
-use Rattle.translation.specs.File.{rowOf, targetsTo, listed, startOfRow, markOf, headerOf, fileOf}
+use Rattle.translation.specs.File.{rowOf, targetsTo, listed, startOfRow, slotMark, headerOf, fileOf}
 use Rattle.translation.specs.Counts.{length-listed, getD-listed, starts-step, starts-rise, starts-to, all-targets}
 use Rattle.translation.specs.Leads.{row-leads, row-slots, row-has, row-step}
 use Rattle.translation.specs.Sections.{sections, read-header, read-start, read-target, read-mark}
@@ -58,7 +58,7 @@ module _ (b : List ℕ) (f : WellFormed b) where
   abbrev F : List ℕ
   F = fileOf b
 
-  in-sections : F ≡ sections (headerOf S E) (listed (startOfRow b) (suc S)) (targetsTo b S) (listed (markOf b) S) []
+  in-sections : F ≡ sections (headerOf S E) (listed (startOfRow b) (suc S)) (targetsTo b S) (listed (slotMark b) S) []
   unfolding fileOf
   in-sections = simp (append-assoc, append-nil)
 
@@ -72,7 +72,7 @@ module _ (b : List ℕ) (f : WellFormed b) where
   starts = listed (startOfRow b) (suc S)
 
   abbrev marks : List ℕ
-  marks = listed (markOf b) S
+  marks = listed (slotMark b) S
 
   -- ---- the counts
   pub kind-read : kindOf F ≡ 2
@@ -109,15 +109,15 @@ module _ (b : List ℕ) (f : WellFormed b) where
       ∙ ap (λ (x : List ℕ). wordAt x (28 + 4 * length starts + 4 * i)) in-sections
       ∙ read-target header starts (targetsTo b S) marks [] refl i h (omega (arith, target-slot i h, slots-few b f))
 
-  pub mark-read : (p : ℕ) → p < S → mark F p ≡ markOf b p
+  pub mark-read : (p : ℕ) → p < S → mark F p ≡ slotMark b p
   unfolding mark
   mark-read p h =
       let e : 28 + 4 * (statesOf F + 1) + 4 * edgesOf F + p ≡ 28 + 4 * length starts + 4 * length (targetsTo b S) + p =
       omega (arith, states-read, edges-read, length-listed (startOfRow b) (suc S)) in
       ap (byteAt F) e
       ∙ ap (λ (x : List ℕ). byteAt x (28 + 4 * length starts + 4 * length (targetsTo b S) + p)) in-sections
-      ∙ read-mark header starts (targetsTo b S) marks [] refl p (omega (arith, length-listed (markOf b) S))
-      ∙ getD-listed (markOf b) S p h
+      ∙ read-mark header starts (targetsTo b S) marks [] refl p (omega (arith, length-listed (slotMark b) S))
+      ∙ getD-listed (slotMark b) S p h
 
   -- ---- the rows
   pub row-read : (p i : ℕ) → p < S → rowStart F p ≤ i → i < rowStart F (suc p) → target F i ≡ getD (rowOf b p) (i - startOfRow b p) 0

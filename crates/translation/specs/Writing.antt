@@ -12,7 +12,7 @@ use Rattle.recorder.specs.SlotGraph.{at}
 use Rattle.table.specs.BlockOf.{blockOf}
 use Rattle.table.specs.Layout.{littleEndian, target}
 use Rattle.table.specs.Recording.{nextOf, fromOf, toOf}
-use Rattle.translation.specs.File.{alongOf, alongFrom, rowOf, targetsTo, listed, startOfRow, markOf}
+use Rattle.translation.specs.File.{alongOf, alongFrom, rowOf, targetsTo, listed, startOfRow, slotMark}
 use Rattle.translation.specs.Counts.{length-listed, starts-step, starts-rise}
 use Rattle.translation.specs.Placed.{placed, placed-none, placed-all, byte-next, little-next, little-length, little-all}
 
@@ -27,7 +27,7 @@ pub record Marking (b w₀ : List ℕ) (S : ℕ) (w : List ℕ) (p : ℕ) : Type
   pub to : p ≤ S
   pub room : length w₀ ≡ S
   -- the marks of the slots below p are written
-  pub is : w ≡ placed 0 (listed (markOf b) p) w₀
+  pub is : w ≡ placed 0 (listed (slotMark b) p) w₀
   pub same-length : length w ≡ length w₀
 
 pub marking-begins : (b w₀ : List ℕ) (S : ℕ) → length w₀ ≡ S → Marking b w₀ S w₀ 0
@@ -35,18 +35,18 @@ unfolding listed
 marking-begins b w₀ S e = record { to = zero-le; room = e; is = placed-none 0 w₀; same-length = refl }
 
 module _ {b w₀ : List ℕ} {S : ℕ} {w : List ℕ} {p : ℕ} (g : Marking b w₀ S w p) where
-  pub marking-on : {x : ℕ} → p < S → x ≡ markOf b p → Marking b w₀ S (set w p x) (p + 1)
+  pub marking-on : {x : ℕ} → p < S → x ≡ slotMark b p → Marking b w₀ S (set w p x) (p + 1)
   marking-on {x} h e = record {
     to = omega arith;
     room = g .room;
-    is = byte-next p x (listed (markOf b) p) w₀ (g .is) (length-listed (markOf b) p) (omega (arith, g .room)) ∙ ap (λ (l : List ℕ). placed 0 l w₀) (listed-next (markOf b) p x e);
+    is = byte-next p x (listed (slotMark b) p) w₀ (g .is) (length-listed (slotMark b) p) (omega (arith, g .room)) ∙ ap (λ (l : List ℕ). placed 0 l w₀) (listed-next (slotMark b) p x e);
     same-length = length-set w p x ∙ g .same-length;
   }
 
-  pub marking-ends : S ≤ p → w ≡ listed (markOf b) S
+  pub marking-ends : S ≤ p → w ≡ listed (slotMark b) S
   marking-ends h =
       let e : p ≡ S = omega (arith, g .to) in
-      g .is ∙ placed-all (listed (markOf b) p) w₀ (omega (arith, g .room, length-listed (markOf b) p)) ∙ ap (listed (markOf b)) e
+      g .is ∙ placed-all (listed (slotMark b) p) w₀ (omega (arith, g .room, length-listed (slotMark b) p)) ∙ ap (listed (slotMark b)) e
 
 -- ---- the row starts
 

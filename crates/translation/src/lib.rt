@@ -20,11 +20,7 @@ pub fn translate(bytes: &[u8], out: &mut [u8]) -> Answer
 {
     let answer = table::open(bytes);
     let Opened::Accepted(t) = answer else {
-        return match answer {
-            Opened::Refused(why) => Answer::Refused(why),
-            // Not reached: the table was not accepted.
-            Opened::Accepted(_) => Answer::Refused(Refusal::TooShort),
-        };
+        return Answer::Refused(table::why(answer));
     };
     let slots = recorder::slot_count(t.states, t.sets);
     let edges = quote::edge_count(t.states, t.edges, t.sets);

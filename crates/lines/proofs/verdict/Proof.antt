@@ -1,5 +1,6 @@
 -- `lines::verdict` meets its contract: the table is searched and quoted, and the lines are those of both answers. Assumes nothing.
 use native.Mathlib.Omega.{arith}
+use Rattle.table.specs.WellFormed.{why-is}
 use Rattle.lines.specs.Puts.{puts-on, puts-length}
 use Rattle.lines.specs.Laws.{run-fits, puts-table-refused, puts-verdict}
 use borrow.Author.Needs.{needs}
@@ -12,14 +13,24 @@ search-requires c κs = search needs
 quote-requires : tie.Need-quote-requires
 quote-requires c κs = search needs
 
-enum-known-opened : tie.Need-enum-known-opened
-enum-known-opened c = search needs
+enum-told : tie.Need-enum-told
+enum-told c = search needs
+
+enum-told-2 : tie.Need-enum-told-2
+enum-told-2 c = search needs
+
+why-requires : tie.Need-why-requires
+why-requires c κs = search needs
 
 refused-line-requires : tie.Need-refused-line-requires
 refused-line-requires c κs = search needs
 
-enum-told : tie.Need-enum-told
-enum-told c = search needs
+returns : tie.Need-returns
+returns c =
+    let w = c .before in
+    let told = w .before .before in
+    let q = told .before .before in
+    (_, q .before .search .ensures, puts-table-refused _ _ _ _ (q .quote .ensures) _ (why-is _ _ _ (told .enum-told2 .given .1) (w .why .ensures)) (c .refused-line .ensures))
 
 sheet-lines-requires : tie.Need-sheet-lines-requires
 sheet-lines-requires c κs = search needs
@@ -30,18 +41,12 @@ answer-lines-requires c κs =
     let room = c .before .before .before .sheet-lines-arg .given in
     (run-fits _ _ _ _ _ _ (c .before .before .before .before .before .before .before .before .search .ensures), omega (arith, first .1, puts-length (first .0), room))
 
-returns : tie.Need-returns
-returns c =
-    let s = c .before .before .before .before .before .before in
-    (_, s .search .ensures, puts-table-refused _ _ _ _ (c .before .before .before .before .before .quote .ensures) _ (c .before .before .before .opened .given .1) (c .refused-line .ensures))
-
 returns-2 : tie.Need-returns-2
 returns-2 c =
-    let s = c .before .before .before .before .before .before .before .before .before in (
-      _,
-      s .search .ensures,
-      puts-verdict _ _ _ _ (c .before .before .before .before .before .before .before .before .quote .ensures) _ (c .before .before .before .before .before .before .enum-told .given .1) (puts-on (c .before .before .before .sheet-lines .ensures .0) (c .answer-lines .ensures)),
-    )
+    let sheet = c .before .before .before in
+    let told = sheet .before .before .before in
+    let q = told .before .before in
+    (_, q .before .search .ensures, puts-verdict _ _ _ _ (q .quote .ensures) _ (told .enum-told .given .1) (puts-on (sheet .sheet-lines .ensures .0) (c .answer-lines .ensures)))
 
 pub verdict-spec : {M : Type 1} → statement M
 verdict-spec =
@@ -49,10 +54,11 @@ verdict-spec =
     (tie.spec
     search-requires
     quote-requires
-    enum-known-opened
-    refused-line-requires
     enum-told
+    enum-told-2
+    why-requires
+    refused-line-requires
+    returns
     sheet-lines-requires
     answer-lines-requires
-    returns
     returns-2)

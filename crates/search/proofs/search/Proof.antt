@@ -7,7 +7,7 @@ use denote.Ref.{now}
 use borrow.Author.Needs.{needs}
 use Rattle.recorder.specs.Slots.{slotCount}
 use Rattle.table.specs.Open.{openOf}
-use Rattle.table.specs.WellFormed.{well-formed, laid}
+use Rattle.table.specs.WellFormed.{well-formed, laid, why-is}
 use Rattle.table.specs.declared.Table.{Table}
 use Rattle.table.specs.declared.Opened.the-variants.{Accepted}
 use Rattle.table.specs.Recording.{slotsOf, slots-few}
@@ -36,22 +36,14 @@ open-requires c κs = search needs
 enum-known-answer : tie.Need-enum-known-answer
 enum-known-answer c = search needs
 
-enum-known-answer-2 : tie.Need-enum-known-answer-2
-enum-known-answer-2 c = search needs
-
-enum-known-answer-3 : tie.Need-enum-known-answer-3
-enum-known-answer-3 c = search needs
-
 enum-told : tie.Need-enum-told
 enum-told c = search needs
 
-returns : tie.Need-returns
-returns c =
-    let o = c .before .before .before .before .before .before .«open» in
-    table-refused _ _ _ _ (sym (o .ensures) ∙ c .before .before .before .before .answer2 .given .1 ∙ c .before .answer3 .given .1)
+why-requires : tie.Need-why-requires
+why-requires c κs = search needs
 
-returns-2 : tie.Need-returns-2
-returns-2 c = let dead : ⊥ = search needs in absurd dead
+returns : tie.Need-returns
+returns c = table-refused _ _ _ _ (sym (c .before .before .before .«open» .ensures) ∙ why-is _ _ _ (c .before .enum-told .given .1) (c .why .ensures))
 
 slot-count-requires : tie.Need-slot-count-requires
 slot-count-requires c κs = let l = laid _ _ (opened c) in (l .states-to, omega (arith, l .sets-to))
@@ -59,11 +51,11 @@ slot-count-requires c κs = let l = laid _ _ (opened c) in (l .states-to, omega 
 mul-if1 : tie.Need-mul-if1
 mul-if1 c = omega (arith, slots-are c, slots-few _ (well-formed _ _ (opened (c .before))))
 
-returns-3 : tie.Need-returns-3
-returns-3 c = let d = c .before in short-workspace _ _ _ _ (opened (d .before)) (omega (arith, c .if1 .taken, slots-are d))
+returns-2 : tie.Need-returns-2
+returns-2 c = let d = c .before in short-workspace _ _ _ _ (opened (d .before)) (omega (arith, c .if1 .taken, slots-are d))
 
-returns-4 : tie.Need-returns-4
-returns-4 c =
+returns-3 : tie.Need-returns-3
+returns-3 c =
     let d = c .before .before in
     short-report _ _ _ _ (opened (d .before)) (omega (arith, c .before .if1 .left, slots-are d)) (omega (arith, c .if2 .taken, slots-are d))
 
@@ -85,8 +77,8 @@ same-length c = search needs
 same-length-2 : tie.Need-same-length-2
 same-length-2 c = search needs
 
-returns-5 : tie.Need-returns-5
-returns-5 c =
+returns-4 : tie.Need-returns-4
+returns-4 c =
     let f = c .before .before .before .before in
     let e = f .before .before .before in
     let d = e .before .before in
@@ -98,16 +90,14 @@ search-spec =
     (tie.spec
     open-requires
     enum-known-answer
-    enum-known-answer-2
-    enum-known-answer-3
     enum-told
+    why-requires
     returns
-    returns-2
     slot-count-requires
     mul-if1
+    returns-2
     returns-3
-    returns-4
     find-requires
     same-length
     same-length-2
-    returns-5)
+    returns-4)

@@ -12,7 +12,7 @@ use Rattle.recorder.specs.declared.Record.{Record}
 use Rattle.table.specs.Open.{openOf}
 use Rattle.table.specs.BlockOf.{blockOf}
 use Rattle.table.specs.Inside.{MarkInside, mark-inside}
-use Rattle.table.specs.WellFormed.{well-formed, laid}
+use Rattle.table.specs.WellFormed.{well-formed, laid, why-is}
 use Rattle.table.specs.declared.Table.{Table}
 use Rattle.table.specs.declared.Opened.the-variants.{Accepted}
 use Rattle.stepping.specs.Step.{recordFits}
@@ -57,30 +57,20 @@ open-requires c κs = search needs
 enum-known-answer : tie.Need-enum-known-answer
 enum-known-answer c = search needs
 
-enum-known-answer-2 : tie.Need-enum-known-answer-2
-enum-known-answer-2 c = search needs
-
-enum-known-answer-3 : tie.Need-enum-known-answer-3
-enum-known-answer-3 c = search needs
-
 enum-told : tie.Need-enum-told
 enum-told c = search needs
 
-returns : tie.Need-returns
-returns c =
-    let a = c .before .before .before .before .before .before .before .before .args in
-    let o = c .before .before .before .before .before .before .«open» in
-    table-refused (now (a .bytes)) (a .r) (a .next) (a .wish) _
-    (sym (o .ensures) ∙ c .before .before .before .before .answer2 .given .1 ∙ c .before .answer3 .given .1)
+why-requires : tie.Need-why-requires
+why-requires c κs = search needs
 
-returns-2 : tie.Need-returns-2
-returns-2 c = search needs
+returns : tie.Need-returns
+returns c = table-refused _ _ _ _ _ (sym (c .before .before .before .«open» .ensures) ∙ why-is _ _ _ (c .before .enum-told .given .1) (c .why .ensures))
 
 fits-requires : tie.Need-fits-requires
 fits-requires c κs = laid (b c) (t c) (opened c) .sets-to
 
-returns-3 : tie.Need-returns-3
-returns-3 c =
+returns-2 : tie.Need-returns-2
+returns-2 c =
     let d = c .before .before in
     record-refused (b d) (r d) (next d) _ (t d) (opened d) (sym (c .before .fits2 .ensures) ∙ not-true _ (c .if1 .taken))
 
@@ -89,8 +79,8 @@ has-edge-requires c κs =
     let d = c .before .before in
     (well-formed (b d) (t d) (opened d), (laid (b d) (t d) (opened d) .states-are, omega (arith, states-in c)))
 
-returns-4 : tie.Need-returns-4
-returns-4 c =
+returns-3 : tie.Need-returns-3
+returns-3 c =
     let e = c .before .before in
     let d = e .before .before in
     no-edge (b d) (r d) (next d) _ (t d) (opened d) (fits e) (sym (c .before .has-edge .ensures) ∙ not-true _ (c .if2 .taken))
@@ -104,8 +94,8 @@ fair-requires c κs = let e = c .before .before .before in inside e _ (omega (ar
 step-requires : tie.Need-step-requires
 step-requires c κs = search needs
 
-returns-5 : tie.Need-returns-5
-returns-5 c =
+returns-4 : tie.Need-returns-4
+returns-4 c =
     let after = c .before .before .before in
     let e = after .before .before in
     let d = e .before .before in
@@ -124,16 +114,14 @@ step-spec =
     (tie.spec
     open-requires
     enum-known-answer
-    enum-known-answer-2
-    enum-known-answer-3
     enum-told
+    why-requires
     returns
-    returns-2
     fits-requires
-    returns-3
+    returns-2
     has-edge-requires
-    returns-4
+    returns-3
     has-goal-requires
     fair-requires
     step-requires
-    returns-5)
+    returns-4)

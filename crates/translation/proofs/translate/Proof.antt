@@ -11,7 +11,7 @@ use borrow.Author.Needs.{needs}
 use Rattle.recorder.specs.Slots.{slotCount}
 use Rattle.table.specs.Layout.{littleEndian}
 use Rattle.table.specs.Open.{openOf}
-use Rattle.table.specs.WellFormed.{WellFormed, well-formed, laid}
+use Rattle.table.specs.WellFormed.{WellFormed, well-formed, laid, why-is}
 use Rattle.table.specs.declared.Table.{Table}
 use Rattle.table.specs.declared.Opened.the-variants.{Accepted}
 use Rattle.translation.specs.Asks.{Asks}
@@ -112,22 +112,14 @@ open-requires c κs = search needs
 enum-known-answer : tie.Need-enum-known-answer
 enum-known-answer c = search needs
 
-enum-known-answer-2 : tie.Need-enum-known-answer-2
-enum-known-answer-2 c = search needs
-
-enum-known-answer-3 : tie.Need-enum-known-answer-3
-enum-known-answer-3 c = search needs
-
 enum-told : tie.Need-enum-told
 enum-told c = search needs
 
-returns : tie.Need-returns
-returns c =
-    let o = c .before .before .before .before .before .before .«open» in
-    table-refused _ _ _ (sym (o .ensures) ∙ c .before .before .before .before .answer2 .given .1 ∙ c .before .answer3 .given .1)
+why-requires : tie.Need-why-requires
+why-requires c κs = search needs
 
-returns-2 : tie.Need-returns-2
-returns-2 c = let dead : ⊥ = search needs in absurd dead
+returns : tie.Need-returns
+returns c = table-refused _ _ _ (sym (c .before .before .before .«open» .ensures) ∙ why-is _ _ _ (c .before .enum-told .given .1) (c .why .ensures))
 
 slot-count-requires : tie.Need-slot-count-requires
 slot-count-requires c κs = let l = laid _ _ (opened c) in (l .states-to, omega (arith, l .sets-to))
@@ -150,8 +142,8 @@ add-marks c = omega (arith, sizes-small (counted c))
 add-size : tie.Need-add-size
 add-size c = omega (arith, sizes-small (counted c))
 
-returns-3 : tie.Need-returns-3
-returns-3 c = let d = c .before in short-output _ _ _ (opened (taken d)) (omega (arith, c .if1 .taken, size-is (counted d)))
+returns-2 : tie.Need-returns-2
+returns-2 c = let d = c .before in short-output _ _ _ (opened (taken d)) (omega (arith, c .if1 .taken, size-is (counted d)))
 
 sub-write-header : tie.Need-sub-write-header
 sub-write-header c = search needs
@@ -204,8 +196,8 @@ write-marks-requires c κs = let k = c .before .before .before in let d = counts
 same-length : tie.Need-same-length
 same-length c = search needs
 
-returns-4 : tie.Need-returns-4
-returns-4 c =
+returns-3 : tie.Need-returns-3
+returns-3 c =
     let m = c .before .before in
     let k = m .before .before .before .before in
     let d = counts k in
@@ -219,11 +211,9 @@ translate-spec =
     (tie.spec
     open-requires
     enum-known-answer
-    enum-known-answer-2
-    enum-known-answer-3
     enum-told
+    why-requires
     returns
-    returns-2
     slot-count-requires
     edge-count-requires
     mul-targets
@@ -231,7 +221,7 @@ translate-spec =
     mul-marks
     add-marks
     add-size
-    returns-3
+    returns-2
     sub-write-header
     part-write-header-start
     part-write-header-end
@@ -249,4 +239,4 @@ translate-spec =
     part-write-marks-end
     write-marks-requires
     same-length
-    returns-4)
+    returns-3)
