@@ -1,15 +1,21 @@
--- What the two exported jobs with lent buffers say, and that each statement settles number, words and buffers. Document 01, "Strength of the
+-- What the two exported jobs with lent buffers say, and that the statement of each of the five settles number, words and buffers. Document 01, "Strength of the
 -- statements". Assumes nothing.
 use mathlib.Core.Path.{_≡_, sym, ap, _∙_}
+use mathlib.Core.Bool.{Bool}
 use mathlib.Core.List.{List}
 use Prim.Native.Nat.{ℕ}
+use Rattle.order.specs.Settled.{both-settled}
+use Rattle.recorder.specs.declared.Record.{Record}
+use Rattle.table.specs.Open.{openOf}
+use Rattle.quote.specs.Quote.{quoteOf}
+use Rattle.stepping.specs.Step.{steppedOf}
 use Rattle.search.specs.Searched.{SearchSays}
 use Rattle.search.specs.Laws.{search-unique}
 use Rattle.search.specs.declared.Answer.{Answer as Searched}
 use Rattle.translation.specs.Translated.{TranslateSays}
 use Rattle.translation.specs.Laws.{translate-unique}
 use Rattle.translation.specs.declared.Answer.{Answer as Translated}
-use Rattle.lasso.specs.Words.{searchNumber, searchWords, translateNumber, translateWords}
+use Rattle.lasso.specs.Words.{openNumber, openWords, quoteNumber, quoteWords, stepNumber, stepWords, searchNumber, searchWords, translateNumber, translateWords}
 
 -- the number and the words are those of an answer that the search may give
 abbrev pub SearchSaid : List ℕ → List ℕ → List ℕ → ℕ → List ℕ → List ℕ → List ℕ → Type 0
@@ -22,6 +28,19 @@ TranslateSaid b out number words out′ =
     (a : Translated) × TranslateSays b out a out′ × ((number ≡ translateNumber a) × (words ≡ translateWords a))
 
 -- ---- two results that meet a statement are equal
+
+pub open-said-unique : (b : List ℕ) (x x′ : ℕ) (a a′ : List ℕ) → (x ≡ openNumber (openOf b)) × (a ≡ openWords (openOf b))
+    → (x′ ≡ openNumber (openOf b)) × (a′ ≡ openWords (openOf b)) → (x ≡ x′) × (a ≡ a′)
+open-said-unique b x x′ a a′ = both-settled
+
+pub quote-said-unique : (b : List ℕ) (x x′ : ℕ) (a a′ : List ℕ) → (x ≡ quoteNumber (quoteOf b)) × (a ≡ quoteWords (quoteOf b))
+    → (x′ ≡ quoteNumber (quoteOf b)) × (a′ ≡ quoteWords (quoteOf b)) → (x ≡ x′) × (a ≡ a′)
+quote-said-unique b x x′ a a′ = both-settled
+
+pub step-said-unique : (b : List ℕ) (r : Record) (s′ : ℕ) (wish : Bool) (x x′ : ℕ) (a a′ : List ℕ)
+    → (x ≡ stepNumber (steppedOf b r s′ wish)) × (a ≡ stepWords (steppedOf b r s′ wish))
+    → (x′ ≡ stepNumber (steppedOf b r s′ wish)) × (a′ ≡ stepWords (steppedOf b r s′ wish)) → (x ≡ x′) × (a ≡ a′)
+step-said-unique b r s′ wish x x′ a a′ = both-settled
 
 pub search-said-unique : (b work report : List ℕ) (x x′ : ℕ) (a a′ w w′ r r′ : List ℕ)
     → SearchSaid b work report x a w r → SearchSaid b work report x′ a′ w′ r′ → (x ≡ x′) × (a ≡ a′) × (w ≡ w′) × (r ≡ r′)
