@@ -1,4 +1,4 @@
-//! Tests of all sides by what document 01 says, "Tables by hand", and of their searches against each other.
+//! Tests of all sides by docs/RULES.md, "Tables by hand", and of their searches against each other.
 
 use crate::random::Random;
 use crate::sides::{Side, SIDES};

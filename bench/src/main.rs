@@ -1,4 +1,4 @@
-//! The five jobs of document 01: the library and two versions in safe Rust, side by side in one run.
+//! The five jobs of docs/RULES.md, "What it answers": the library and two versions in safe Rust, side by side in one run.
 
 #![forbid(unsafe_code)]
 

@@ -1,5 +1,5 @@
-//! The three sides that are compared, each with the five jobs of document 01: the table in lent bytes, the buffers lent by the caller, the same
-//! answers, refusals and buffers afterwards.
+//! The three sides that are compared, each with the five jobs of docs/RULES.md, "What it answers": the table in lent bytes, the buffers lent by the
+//! caller, the same answers, refusals and buffers afterwards.
 
 use crate::{plain, tuned};
 use lasso::{Found, Record, Refusal, Sheet, Table};

@@ -1,6 +1,6 @@
-//! `compare`: the library, and the programs if given, against an independent program that is written from document 01 alone. A run with a fixed seed
-//! and one with a fresh seed draw small, larger and damaged tables. Exit status: 0 where all agree and all that is required came up, 1 where not, 2
-//! where the comparison could not be made.
+//! `compare`: the library, and the programs if given, against an independent program that is written from the rules alone
+//! (docs/RULES.md, "What it answers"). A run with a fixed seed and one with a fresh seed draw small, larger and damaged tables. Exit status: 0 where
+//! all agree and all that is required came up, 1 where not, 2 where the comparison could not be made.
 
 mod arguments;
 mod compare;

@@ -1,4 +1,4 @@
-//! What the library says of a table: its quote and its least lasso. Reads document 01, "Lasso and choice" and "Quote sheet".
+//! What the library says of a table: its quote and its least lasso. Reads docs/RULES.md, "Lasso and choice" and "Quote sheet".
 use lasso::{Found, Refusal, Sheet};
 
 /// The states at places 0 to k; the last leads back to place `l`.

@@ -1,4 +1,4 @@
-//! What a table says, apart from how it is written. Reads document 01, "The table file". Names come from the text form only: a file has none.
+//! What a table says, apart from how it is written. Reads docs/RULES.md, "The table file". Names come from the text form only: a file has none.
 
 /// A state's marks and row. `sets` are those of which the state is a member; `sets` and `row` rise strictly.
 #[derive(Clone, Debug, PartialEq, Eq)]

@@ -1,4 +1,4 @@
-//! Tables for people: a text form, its way to a table file and back, and a picture. The rules are those of document 01.
+//! Tables for people: a text form, its way to a table file and back, and a picture. The rules are those of docs/RULES.md, "The table file".
 pub mod answer;
 pub mod content;
 pub mod picture;

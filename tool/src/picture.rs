@@ -1,4 +1,4 @@
-//! The Graphviz text of a table, with its least lasso drawn in. Reads document 01, "Lasso and choice" and "Quote sheet".
+//! The Graphviz text of a table, with its least lasso drawn in. Reads docs/RULES.md, "Lasso and choice" and "Quote sheet".
 //!
 //! A state's id is its number. All text that comes from a name is quoted; the other values are words of Graphviz.
 use crate::answer::{Answer, Lasso};

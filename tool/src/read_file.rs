@@ -1,5 +1,5 @@
-//! The content of a table file that the library accepts. Reads document 01, "The table file". What is accepted is the library's to say, so nothing is
-//! checked here a second time.
+//! The content of a table file that the library accepts. Reads docs/RULES.md, "The table file". What is accepted is the library's to say, so nothing
+//! is checked here a second time.
 use crate::content::{Content, State};
 use crate::rules::{set_bit, Layout, GOAL_BIT, START_BIT, WORD};
 use lasso::Refusal;

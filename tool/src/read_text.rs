@@ -1,4 +1,4 @@
-//! The text form to a table's content. Reads document 01, "The table file": the limits on states, edges and sets.
+//! The text form to a table's content. Reads docs/RULES.md, "The table file": the limits on states, edges and sets.
 //!
 //! The first error is given: those of the lines in order, then those of the successors in order, for a successor may be a state of a later line.
 use crate::content::{Content, State};

@@ -1,4 +1,4 @@
-//! Tells a table file from the text form, by content. Reads document 01, "The table file".
+//! Tells a table file from the text form, by content. Reads docs/RULES.md, "The table file".
 //!
 //! A table file has a zero byte: its kind is 1 or 2, in four bytes. The text form has none, for a zero byte is an error there. So a file with a zero
 //! byte is taken for a table file, and any other file for text. A file that is neither fails as what it was taken for.

@@ -1,4 +1,4 @@
-//! A refusal in words, one line. Reads document 01, "Refusal list".
+//! A refusal in words, one line. Reads docs/RULES.md, "Refusal list".
 use lasso::Refusal;
 
 /// What the place of a refusal counts.

@@ -1,5 +1,5 @@
-//! Successors of the text form to state numbers, once all states are known. Reads document 01, "The table file": targets rise strictly within a row,
-//! and e is at most 1,024.
+//! Successors of the text form to state numbers, once all states are known. Reads docs/RULES.md, "The table file": targets rise strictly within a
+//! row, and e is at most 1,024.
 use crate::lines::Error;
 use crate::rules::MOST_EDGES;
 use crate::state_line::StateLine;

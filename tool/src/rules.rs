@@ -1,4 +1,4 @@
-//! The numbers of a table file, each said once. Reads document 01, "The table file" and the letters of "Quote sheet".
+//! The numbers of a table file, each said once. Reads docs/RULES.md, "The table file" and the letters of "Quote sheet".
 
 /// The kind of a client's table.
 pub const KIND: u32 = 1;

@@ -1,4 +1,4 @@
-//! The `sets` line of the text form, a count or names; and the sets that a state's line names. Reads document 01, "The table file": m is 0 to 4.
+//! The `sets` line of the text form, a count or names; and the sets that a state's line names. Reads docs/RULES.md, "The table file": m is 0 to 4.
 use crate::lines::{Error, Line};
 use crate::rules::MOST_SETS;
 use crate::words::{number_of, quoted, why_no_name};

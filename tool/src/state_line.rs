@@ -1,4 +1,4 @@
-//! One `state` line of the text form: number or name, marks, arrow, successors. Reads document 01, "The table file": marks, and no row is empty.
+//! One `state` line of the text form: number or name, marks, arrow, successors. Reads docs/RULES.md, "The table file": marks, and no row is empty.
 use crate::lines::{Error, Line};
 use crate::sets_line::{members_of, Sets};
 use crate::words::{number_of, quoted, why_no_name, ARROW, GOAL, IN, START};

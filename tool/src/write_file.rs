@@ -1,4 +1,4 @@
-//! A table file's bytes from its content. Reads document 01, "The table file".
+//! A table file's bytes from its content. Reads docs/RULES.md, "The table file".
 use crate::content::{Content, State};
 use crate::rules::{set_bit, Layout, GOAL_BIT, KIND, START_BIT};
 

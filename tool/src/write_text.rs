@@ -1,4 +1,4 @@
-//! The canonical text of a table: numbers only, one line a state, all lists rising. Reads document 01, "The table file".
+//! The canonical text of a table: numbers only, one line a state, all lists rising. Reads docs/RULES.md, "The table file".
 use crate::content::{Content, State};
 use crate::words::{ARROW, GOAL, IN, SETS, START, STATE};
 

@@ -1,5 +1,5 @@
-//! The five jobs by the library's method, in safe Rust as one would write it down from document 01: the refusal list line by line, the search and the
-//! translation record by record. Nothing is allocated.
+//! The five jobs by the library's method, in safe Rust as one would write it down from docs/RULES.md, "Refusal list" and the others: the list
+//! line by line, the search and the translation record by record. Nothing is allocated.
 
 mod open;
 mod quote;

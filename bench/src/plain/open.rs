@@ -1,4 +1,4 @@
-//! Open: document 01, "Refusal list", numbers 1 to 8, a loop for each line from 5 on.
+//! Open: docs/RULES.md, "Refusal list", numbers 1 to 8, a loop for each line from 5 on.
 
 use crate::shared::parts::{number, refused, Parts};
 use lasso::{Refusal, Table};

@@ -1,4 +1,4 @@
-//! Quote: document 01, "Quote sheet". The members are counted mark by mark.
+//! Quote: docs/RULES.md, "Quote sheet". The members are counted mark by mark.
 
 use super::open::take_apart;
 use crate::shared::sheet::sheet;

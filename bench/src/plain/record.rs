@@ -1,4 +1,4 @@
-//! Slot numbers of records, and bad records: document 01, "The recorder".
+//! Slot numbers of records, and bad records: docs/RULES.md, "The recorder".
 
 use crate::shared::parts::Parts;
 use lasso::Record;

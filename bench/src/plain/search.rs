@@ -1,4 +1,4 @@
-//! Search: document 01, "Lasso and choice", "The recorder".
+//! Search: docs/RULES.md, "Lasso and choice", "The recorder".
 //!
 //! A breadth-first walk over slot numbers. The first S words of the workspace hold, for each slot met, its predecessor plus 1; the next S words are
 //! the queue. The tie rule orders records by 2s, plus 1 where nothing is saved. So along each edge the successor that saves comes before the one that

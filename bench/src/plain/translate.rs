@@ -1,4 +1,4 @@
-//! Translate: document 01, "The recorder", its last paragraph. Slot after slot: its row start, its targets, its mark.
+//! Translate: docs/RULES.md, "Translated table". Slot after slot: its row start, its targets, its mark.
 
 use super::open::take_apart;
 use super::record;

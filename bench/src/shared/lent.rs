@@ -1,4 +1,4 @@
-//! The parts of the caller's buffers that a job uses: document 01, refusals 9 to 11, and the header of the translated table.
+//! The parts of the caller's buffers that a job uses: docs/RULES.md, "Refusal list", lines 9 to 11, and the header of "Translated table".
 
 use super::parts::{refused, Parts};
 use lasso::Refusal;

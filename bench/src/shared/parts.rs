@@ -1,4 +1,5 @@
-//! A table taken apart into its three sections: document 01, "The table file", refusals 1 to 4. The sizes of the recorded table: "The recorder".
+//! A table taken apart into its three sections: docs/RULES.md, "The table file", refusals 1 to 4. The sizes of the recorded table:
+//! "Translated table".
 
 use lasso::{Refusal, Table};
 

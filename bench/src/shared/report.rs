@@ -1,4 +1,4 @@
-//! The report of a lasso: document 01, "Lasso and choice", and the paragraph after the refusal list.
+//! The report of a lasso: docs/RULES.md, "Lasso and choice" and "Buffers".
 
 use lasso::Found;
 

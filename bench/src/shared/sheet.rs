@@ -1,4 +1,4 @@
-//! The quote sheet apart from the count of members: document 01, "Quote sheet".
+//! The quote sheet apart from the count of members: docs/RULES.md, "Quote sheet".
 
 use super::parts::Parts;
 use lasso::Sheet;

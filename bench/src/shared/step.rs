@@ -1,4 +1,4 @@
-//! A step of a record: document 01, "The recorder", refusals 12 and 13.
+//! A step of a record: docs/RULES.md, "The recorder", refusals 12 and 13.
 
 use super::parts::{number, refused, Parts};
 use lasso::{Record, Refusal};

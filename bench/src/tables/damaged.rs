@@ -1,4 +1,4 @@
-//! Tables that are refused: document 01, "Refusal list", numbers 1 to 8.
+//! Tables that are refused: docs/RULES.md, "Refusal list", numbers 1 to 8.
 
 use super::sketch::Sketch;
 use crate::random::Random;

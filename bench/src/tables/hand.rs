@@ -1,8 +1,8 @@
-//! Tables of document 01, "Tables by hand".
+//! Tables of docs/RULES.md, "Tables by hand".
 
 use super::sketch::{Sketch, GOAL, START};
 
-/// Its letter, the table, and what document 01 says of it: k, l and run, or nothing for "holds"; then S, E and bytes.
+/// Its letter, the table, and what the rules say of it: k, l and run, or nothing for "holds"; then S, E and bytes.
 #[cfg(test)]
 pub type Row = (char, Sketch, Option<(usize, usize, Vec<u32>)>, [usize; 3]);
 
@@ -27,7 +27,7 @@ pub fn j() -> Sketch {
     started(5, 0).with_edges(&ring(4)).with_edges(&spokes).mark(4, GOAL)
 }
 
-/// Not in document 01: j with a second goal, in state 3, holds.
+/// Not in the rules: j with a second goal, in state 3, holds.
 pub fn j_with_goal_3() -> Sketch {
     j().mark(3, GOAL)
 }

@@ -1,4 +1,4 @@
-//! A table before it is written: rows of targets and marks. Its bytes follow document 01, "The table file".
+//! A table before it is written: rows of targets and marks. Its bytes follow docs/RULES.md, "The table file".
 
 use std::collections::BTreeSet;
 

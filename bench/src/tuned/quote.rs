@@ -1,4 +1,4 @@
-//! Quote: document 01, "Quote sheet". The members of all sets are counted in one word.
+//! Quote: docs/RULES.md, "Quote sheet". The members of all sets are counted in one word.
 
 use super::open::take_apart;
 use crate::shared::sheet::sheet;

@@ -1,4 +1,4 @@
-//! Search: document 01, "Lasso and choice", "The recorder".
+//! Search: docs/RULES.md, "Lasso and choice", "The recorder".
 //!
 //! The walk of the plain search, without live records: none becomes bad, so the walk stops at goal states. A slot is taken apart without a division,
 //! the inner loop has no branch that is hard to foresee, and only what was written is cleared.

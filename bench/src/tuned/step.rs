@@ -1,4 +1,4 @@
-//! Step: document 01, "The recorder".
+//! Step: docs/RULES.md, "The recorder".
 
 use super::open::take_apart;
 use crate::shared::step::checked;

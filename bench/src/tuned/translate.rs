@@ -1,4 +1,4 @@
-//! Translate: document 01, "The recorder", its last paragraph. The targets of the slots with t saved are made from those with t-1 saved, a block at a
+//! Translate: docs/RULES.md, "Translated table". The targets of the slots with t saved are made from those with t-1 saved, a block at a
 //! time.
 
 use super::open::take_apart;

@@ -1,5 +1,5 @@
-// Table a of document 01 and its changes: its first bytes, or one or two of its numbers changed. Its row starts are 0 2 4 6 8, its rows
-// 0 1, 1 2, 2 3 and 0 3, its marks 1 0 0 2. It takes 84 bytes, with the targets from 48 on and the marks from 80 on.
+// Table a of docs/RULES.md, "Tables by hand", and its changes: its first bytes, or one or two of its numbers changed. Its row starts are 0 2 4 6 8,
+// its rows 0 1, 1 2, 2 3 and 0 3, its marks 1 0 0 2. It takes 84 bytes, with the targets from 48 on and the marks from 80 on.
 use super::builder;
 use super::builder::File;
 use super::drawn;

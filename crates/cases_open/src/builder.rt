@@ -1,4 +1,4 @@
-// The bytes of a table file, put by place. Document 01, "The table file". Whatever numbers a case gives, no sum wraps, since `cut` bounds
+// The bytes of a table file, put by place. docs/RULES.md, "The table file". Whatever numbers a case gives, no sum wraps, since `cut` bounds
 // each part of it, and no write falls outside the file, since one that would is left out.
 ghost use Prim.Native.Nat.{_≤_};
 

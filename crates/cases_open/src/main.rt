@@ -1,5 +1,5 @@
 // Runs cases of the refusal list, lines 1 to 8, and of the quote sheet, and prints a line for each: what the table opens as, or its quote.
-// Document 01, "The table file", "Quote sheet", "Refusal list" and "Tables by hand". The file stdout has what they must be.
+// docs/RULES.md, "The table file", "Quote sheet", "Refusal list" and "Tables by hand". The file stdout has what they must be.
 mod base;
 mod boards;
 mod builder;

@@ -1,4 +1,4 @@
-// The quotes of the twelve tables of document 01, "Tables by hand". drawn.rt says how a drawing is read.
+// The quotes of the twelve tables of docs/RULES.md, "Tables by hand". drawn.rt says how a drawing is read.
 use super::drawn;
 use super::print;
 

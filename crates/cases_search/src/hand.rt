@@ -1,4 +1,4 @@
-// The twelve tables of document 01, "Tables by hand", with 2S and S words. Each line has the whole report.
+// The twelve tables of docs/RULES.md, "Tables by hand", with 2S and S words. Each line has the whole report.
 use super::room::whole;
 
 fn first_four() {

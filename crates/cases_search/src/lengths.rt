@@ -1,4 +1,4 @@
-// Lines 9 and 10 of document 01, "Refusal list", and what an accepted search leaves of buffers that are longer than it needs.
+// Lines 9 and 10 of docs/RULES.md, "Refusal list", and what an accepted search leaves of buffers that are longer than it needs.
 use super::room::case;
 
 fn of_a(w: usize, r: usize) {

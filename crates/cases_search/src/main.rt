@@ -1,4 +1,4 @@
-// Cases of a search, one line each, held to the file `stdout`. Document 01, "Lasso and choice", "Refusal list", "Tables by hand" and
+// Cases of a search, one line each, held to the file `stdout`. docs/RULES.md, "Lasso and choice", "Refusal list", "Tables by hand" and
 // "Plausible slips".
 mod again;
 mod hand;

@@ -1,4 +1,4 @@
-// What a buffer has before a search, and how much of it stays. Document 01, "Refusal list", its last paragraph.
+// What a buffer has before a search, and how much of it stays. docs/RULES.md, "Buffers".
 
 // The first word, and how much each later one is above the one before it.
 pub(crate) struct Pattern {

@@ -1,4 +1,4 @@
-// Refused tables: lines 1 to 8 of document 01, "Refusal list", come before lines 9 and 10, and the buffers stay. The places in the bytes are
+// Refused tables: lines 1 to 8 of docs/RULES.md, "Refusal list", come before lines 9 and 10, and the buffers stay. The places in the bytes are
 // those of "The table file": in table a the row starts stand from 28 on, the targets from 48 on, the marks from 80 on.
 use super::room::case;
 

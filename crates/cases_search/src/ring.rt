@@ -1,4 +1,4 @@
-// The ring of 64 states, the most that a table has. Document 01, "The table file". S is 8,320.
+// The ring of 64 states, the most that a table has. docs/RULES.md, "The table file". S is 8,320.
 use super::room::case;
 
 fn ring_case(name: &[u8], ring: &[u8; 608], w: usize, r: usize) {

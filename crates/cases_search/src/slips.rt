@@ -1,4 +1,4 @@
-// More tables for document 01, "Lasso and choice" and "Plausible slips".
+// More tables for docs/RULES.md, "Lasso and choice" and "Plausible slips".
 use super::room::case;
 
 // The goal rules a state out, be it a start, on the way or at the end.

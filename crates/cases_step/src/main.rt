@@ -1,4 +1,4 @@
-// Cases of a step, one line each, held to the file `stdout`. Document 01, "The recorder", lines 12 and 13 of "Refusal list", and those of
+// Cases of a step, one line each, held to the file `stdout`. docs/RULES.md, "The recorder", lines 12 and 13 of "Refusal list", and those of
 // "Plausible slips" that a single step can show.
 mod show;
 

@@ -1,4 +1,4 @@
-// Translations into one output, one after another. Document 01, "Refusal list", its last paragraph: each changes only its own bytes, and a
+// Translations into one output, one after another. docs/RULES.md, "Buffers": each changes only its own bytes, and a
 // refused one changes none.
 use super::pattern;
 use super::show;

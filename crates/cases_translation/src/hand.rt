@@ -1,4 +1,4 @@
-// The twelve tables of document 01, "Tables by hand", each with an output of exactly its size. Each line has the whole output.
+// The twelve tables of docs/RULES.md, "Tables by hand", each with an output of exactly its size. Each line has the whole output.
 use super::room::whole;
 
 fn first_four() {

@@ -1,4 +1,4 @@
-// Large translations. Document 01, "The recorder". The lines have sums: the sum of all bytes, and the sum of the sums up to each.
+// Large translations. docs/RULES.md, "Translated table". The lines have sums: the sum of all bytes, and the sum of the sums up to each.
 use super::room::summed;
 
 // 64,256 bytes: the 65,536 of the program `translate` are enough.

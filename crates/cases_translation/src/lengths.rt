@@ -1,4 +1,4 @@
-// Line 11 of document 01, "Refusal list", and what a translation leaves of an output that is longer than it needs.
+// Line 11 of docs/RULES.md, "Refusal list", and what a translation leaves of an output that is longer than it needs.
 use super::room::case;
 
 fn of_a(n: usize) {

@@ -1,4 +1,4 @@
-// Cases of a translation, one line each, held to the file `stdout`. Document 01, "The recorder", "Refusal list" and "Tables by hand".
+// Cases of a translation, one line each, held to the file `stdout`. docs/RULES.md, "Translated table", "Refusal list" and "Tables by hand".
 mod again;
 mod hand;
 mod large;

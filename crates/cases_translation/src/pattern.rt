@@ -1,4 +1,4 @@
-// What the output has before a translation, and how much of it stays. Document 01, "Refusal list", its last paragraph.
+// What the output has before a translation, and how much of it stays. docs/RULES.md, "Buffers".
 
 // The first byte of the pattern, and how much each later one is above the one before it.
 const FIRST: u8 = 101;

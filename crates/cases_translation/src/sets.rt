@@ -1,4 +1,4 @@
-// More tables for document 01, "The recorder": two starts of which one has the goal, and all four sets. The lines of the latter have sums.
+// More tables for docs/RULES.md, "Translated table": two starts of which one has the goal, and all four sets. The lines of the latter have sums.
 use super::room::summed;
 use super::room::whole;
 

@@ -1,4 +1,4 @@
--- A table by its description, and its bytes. Document 01, "The table file" (the layout) and "Tables by hand" (the descriptions).
+-- A table by its description, and its bytes. docs/RULES.md, "The table file" (the layout) and "Tables by hand" (the descriptions).
 -- Definitions only. Assumes nothing.
 use mathlib.Core.Bool.{cond}
 use mathlib.Core.List.{List, [], _∷_, _++_}

@@ -1,4 +1,4 @@
--- A row of document 01, "Tables by hand", and what it says that a row holds. Definitions only. Assumes nothing.
+-- A row of docs/RULES.md, "Tables by hand", and what it says that a row holds. Definitions only. Assumes nothing.
 use mathlib.Core.Path.{_≡_}
 use mathlib.Core.List.{List}
 use Prim.Native.Nat.{ℕ, suc}

@@ -1,4 +1,4 @@
--- The twelve tables of document 01 and the theorem that their rows hold. Assumes nothing.
+-- The twelve tables of docs/RULES.md, "Tables by hand", and the theorem that their rows hold. Assumes nothing.
 pub mod Drawn
 pub mod HandRow
 pub mod Rows

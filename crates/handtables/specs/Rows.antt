@@ -1,4 +1,4 @@
--- The twelve rows of document 01, "Tables by hand", in its words and order. Start is state 0 and no state has the goal unless said.
+-- The twelve rows of docs/RULES.md, "Tables by hand", in its words and order. Start is state 0 and no state has the goal unless said.
 -- Definitions only. Assumes nothing.
 use mathlib.Core.List.{List, [], _∷_}
 use Rattle.handtables.specs.HandRow.{HandRow, lasso, holds, stopped, ended}

@@ -1,5 +1,5 @@
--- What the two exported jobs with lent buffers say, and that the statement of each of the five settles number, words and buffers. Document 01, "Strength of the
--- statements". Assumes nothing.
+-- What the two exported jobs with lent buffers say, and that the statement of each of the five settles number, words and buffers.
+-- docs/RULES.md, "Strength of the statements". Assumes nothing.
 use mathlib.Core.Path.{_≡_, sym, ap, _∙_}
 use mathlib.Core.Bool.{Bool}
 use mathlib.Core.List.{List}

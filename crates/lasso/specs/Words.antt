@@ -1,5 +1,6 @@
--- The answers of the five jobs as a number and words, for callers in other languages. The number is 0, or that of the refusal (document 01, "Refusal
--- list"). The first word is the refusal's place, or 0; the others are the answer's values, all 0 on a refusal. Definitions only. Assumes nothing.
+-- The answers of the five jobs as a number and words, for callers in other languages. The number is 0, or that of the refusal
+-- (docs/RULES.md, "Refusal list"). The first word is the refusal's place, or 0; the others are the answer's values, all 0 on a refusal. Definitions
+-- only. Assumes nothing.
 use mathlib.Core.List.{List, [], _∷_}
 use Prim.Native.Nat.{ℕ}
 use Rattle.recorder.specs.Slots.{bitOf}

@@ -1,5 +1,5 @@
--- The lines, part by part, as the proofs cite them: what is written is the line of document 01. Then that the two statements settle what is written.
--- Assumes nothing.
+-- The lines, part by part, as the proofs cite them: what is written is the line of docs/RULES.md, "What the programs print". Then that the two
+-- statements settle what is written. Assumes nothing.
 use mathlib.Core.Path.{_≡_, refl, sym, ap, _∙_, subst}
 use mathlib.Core.List.{List, [], _∷_, _++_}
 use mathlib.Core.Option.{Option, none, some}

@@ -1,4 +1,4 @@
--- What the two functions behind the programs say. Document 01, the end of "Tables by hand". Definitions only. Assumes nothing.
+-- What the two functions behind the programs say. docs/RULES.md, "What the programs print". Definitions only. Assumes nothing.
 use mathlib.Core.List.{List}
 use mathlib.Core.Option.{Option, none, some}
 use Prim.Native.Nat.{ℕ, _<_}

@@ -1,4 +1,4 @@
--- The text that the two programs print, as lists of ASCII codes. Document 01, the end of "Tables by hand": the lines of verdict, and the `refused`
+-- The text that the two programs print, as lists of ASCII codes. docs/RULES.md, "What the programs print": the lines of verdict, and the `refused`
 -- line. Definitions only. Assumes nothing.
 use mathlib.Core.Bool.{cond}
 use mathlib.Core.List.{List, [], _∷_, _++_}

@@ -1,4 +1,4 @@
-// What the two programs print, made in a lent buffer. Document 01, the end of "Tables by hand". The rules stand in specs/.
+// What the two programs print, made in a lent buffer. docs/RULES.md, "What the programs print". The rules stand in specs/.
 mod lines;
 mod put;
 

@@ -1,5 +1,5 @@
 -- Words, and the shortlex order on them: the shorter word first, and of two words of one length the one that a dictionary has first.
--- Document 01, "Lasso and choice": "the smallest k", then "least in dictionary order".
+-- docs/RULES.md, "Lasso and choice": "the smallest k", then "least in dictionary order".
 -- Assumes nothing.
 use mathlib.Core.Path.{_≡_, refl, sym, ap, _∙_}
 use mathlib.Core.Logic.{_⊎_, inl, inr}

@@ -1,4 +1,4 @@
--- The boards and the board rule. Document 01, "Quote sheet": the first row with room for both S and E, rows numbered 0 to 7, or 8 for
+-- The boards and the board rule. docs/RULES.md, "Quote sheet": the first row with room for both S and E, rows numbered 0 to 7, or 8 for
 -- none. Definitions only. Assumes nothing.
 use mathlib.Core.Bool.{Bool, _&&_}
 use mathlib.Core.List.{List, [], _∷_}

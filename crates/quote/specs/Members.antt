@@ -1,4 +1,4 @@
--- The members of a fairness set. Document 01, "Quote sheet": the number of members of each of the four sets, 0 for a set not below m.
+-- The members of a fairness set. docs/RULES.md, "Quote sheet": the number of members of each of the four sets, 0 for a set not below m.
 -- First the definition, then the law that says the second half. Assumes nothing.
 use mathlib.Core.Path.{_≡_, refl}
 use mathlib.Core.Bool.{Bool, false, cond}

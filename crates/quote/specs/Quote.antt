@@ -1,4 +1,4 @@
--- What quoting a table answers. Document 01, "Quote sheet". Definitions, then laws. Assumes nothing.
+-- What quoting a table answers. docs/RULES.md, "Quote sheet". Definitions, then laws. Assumes nothing.
 use mathlib.Core.Path.{_≡_, refl}
 use mathlib.Core.List.{List, [], _∷_}
 use Prim.Native.Nat.{ℕ}

@@ -1,4 +1,4 @@
--- The sizes of the recorded table. Document 01, "The recorder": S = n(n+1)·2^(m+1) slots, E = e(n+2)·2^(m+1) edges, 32 + 5S + 4E bytes.
+-- The sizes of the recorded table. docs/RULES.md, "Translated table": S = n(n+1)·2^(m+1) slots, E = e(n+2)·2^(m+1) edges, 32 + 5S + 4E bytes.
 -- First the definitions (S is the recorder's `slotCount`), then the law that says where n + 2 comes from. Assumes nothing.
 use mathlib.Core.Path.{_≡_, refl}
 use mathlib.Core.Bool.{cond}

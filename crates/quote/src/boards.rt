@@ -1,4 +1,4 @@
-// The boards. Document 01, "Quote sheet".
+// The boards. docs/RULES.md, "Quote sheet".
 ghost use mathlib.Core.Path.{_≡_};
 ghost use Rattle.quote.specs.Boards.{boardOf};
 

@@ -1,4 +1,4 @@
-// The quote sheet: what a table costs on a board, after recording. Document 01, "Quote sheet". The rules stand in specs/.
+// The quote sheet: what a table costs on a board, after recording. docs/RULES.md, "Quote sheet". The rules stand in specs/.
 mod boards;
 mod members;
 

@@ -1,4 +1,4 @@
-// The members of a fairness set. Document 01, "Quote sheet".
+// The members of a fairness set. docs/RULES.md, "Quote sheet".
 ghost use mathlib.Core.Path.{_≡_};
 ghost use Prim.Native.Nat.{_<_};
 ghost use Rattle.table.specs.BlockOf.{blockOf};

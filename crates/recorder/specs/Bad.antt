@@ -125,7 +125,7 @@ module _ (F : Flag) (B : Block) (ok : Sound B) (ss : List ℕ) (run : Run B ss) 
     ends-bad none f = (λ e. true≢false (sym e ∙ none-not-bad), λ e. absurd e)
     ends-bad (place l) f = place-bad l (omega (arith, len))
 
--- ---- document 01's flag: the loop is a lasso
+-- ---- the flag of docs/RULES.md, "The recorder": the loop is a lasso
 pub bad-is-lasso : (B : Block) → Sound B → (ss : List ℕ) → Run B ss → (k : ℕ) → length ss ≡ suc (suc k) → (c : Choice) → Fits c (length ss)
     → (badOf B (recordOf (recordAt liveFlag B ss c) (suc k)) ≡ true) ↔ IsLasso B ss k c
 bad-is-lasso B ok ss run k len c f = Iff·trans (ends-bad liveFlag B ok ss run k len c f) (go c)

@@ -1,4 +1,4 @@
--- What a table says of a block, apart from its bytes. Document 01, "The table file": states, starts, goal, fairness sets, edges.
+-- What a table says of a block, apart from its bytes. docs/RULES.md, "The table file": states, starts, goal, fairness sets, edges.
 -- Definitions only. Assumes nothing.
 use mathlib.Core.Path.{_≡_}
 use mathlib.Core.Bool.{Bool, true}

@@ -1,5 +1,5 @@
 -- The third demand, of the rules themselves, in one statement, a field for each sentence; and that the numbers of a run of records are
--- the numbers of document 01's ties and determine the run. The bytes of a translated table come later.
+-- the numbers of docs/RULES.md, "Lasso and choice", and determine the run. The bytes of a translated table come later.
 -- Assumes nothing.
 use mathlib.Core.Path.{_≡_}
 use mathlib.Core.Bool.{true, false, cond}

@@ -1,5 +1,5 @@
--- The flag of a record, as a rule of its own, so that what is proved of records is proved once over any such rule. Document 01,
--- "The recorder": live is 0 at a start; live′ is 1 if s has the goal, else live. Definitions only. Assumes nothing.
+-- The flag of a record, as a rule of its own, so that what is proved of records is proved once over any such rule. docs/RULES.md, "The recorder":
+-- live is 0 at a start; live′ is 1 if s has the goal, else live. Definitions only. Assumes nothing.
 use mathlib.Core.Path.{_≡_}
 use mathlib.Core.Bool.{Bool, false, _||_}
 use mathlib.Core.List.{List}
@@ -15,7 +15,7 @@ pub record Flag : Type 0 where
   pub first : Bool
   pub next : Bool → Bool → Bool → Bool
 
--- document 01's flag
+-- the rules' flag
 abbrev pub liveFlag : Flag
 liveFlag = record { first = false; next = λ flag onLoop goal. goal || flag }
 
@@ -24,7 +24,7 @@ abbrev pub flagAt : Flag → Block → List ℕ → ℕ → ℕ → Bool
 flagAt F B ss l zero = F .first
 flagAt F B ss l (suc i) = F .next (flagAt F B ss l i) (leb l i) (B .goal (state ss i))
 
--- a lasso by the flag F: the flag after all its states is 0. By document 01's flag these are the lassos (Live.antt, `lasso-live`).
+-- a lasso by the flag F: the flag after all its states is 0. By the rules' flag these are the lassos (Live.antt, `lasso-live`).
 pub record LassoBy (F : Flag) (B : Block) (ss : List ℕ) (l : ℕ) : Type 0 where
   pub loop : FairLoop B ss l
   pub flag : flagAt F B ss l (length ss) ≡ false

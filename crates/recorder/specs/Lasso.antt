@@ -1,4 +1,4 @@
--- Runs, lassos, and which lasso is to be returned. Document 01, "Lasso and choice". A lasso is a list of states s0..sk and a
+-- Runs, lassos, and which lasso is to be returned. docs/RULES.md, "Lasso and choice". A lasso is a list of states s0..sk and a
 -- place l; its length k is one less than the number of its states. Definitions only. Assumes nothing.
 use mathlib.Core.Path.{_≡_}
 use mathlib.Core.Bool.{true, false, cond}

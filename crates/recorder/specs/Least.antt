@@ -1,6 +1,6 @@
 -- The second demand, of the rules themselves: the least bad word of the slot graph is the list of numbers of the least lasso; there
--- is at most one least lasso; and no run ends bad exactly if there is no lasso of any length. Over any flag, then read for
--- document 01's. Assumes nothing.
+-- is at most one least lasso; and no run ends bad exactly if there is no lasso of any length. Over any flag, then read for the flag of
+-- docs/RULES.md, "The recorder". Assumes nothing.
 use mathlib.Core.Path.{_≡_, sym, _∙_}
 use mathlib.Core.Logic.{_↔_, _⊎_, inl, inr}
 use mathlib.Core.List.{List}
@@ -93,7 +93,7 @@ module _ (F : Flag) (B : Block) (ok : Sound B) where
     λ none x r b. let h = lasso-of-bad F B ok r b in none (h .ss) (h .l) (h .lasso),
   )
 
--- ---- document 01's flag
+-- ---- the rules' flag
 
 pub record LeastOfBlock (B : Block) : Type 0 where
   -- the least bad word is the least lasso's list of numbers

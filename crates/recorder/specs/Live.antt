@@ -1,4 +1,4 @@
--- By document 01's flag, the lassos of the flag are the lassos: the flag is 0 at the end exactly where no state has the goal.
+-- By the flag of docs/RULES.md, "The recorder", the lassos of the flag are the lassos: the flag is 0 at the end exactly where no state has the goal.
 -- Assumes nothing.
 use mathlib.Core.Path.{_≡_, refl, sym, _∙_}
 use mathlib.Core.Bool.{Bool, true, false, _||_, true≢false}

@@ -1,4 +1,4 @@
--- When a run with its choice has closed a lasso. Document 01, "The recorder", as the third demand reads it. Definitions only. Assumes nothing.
+-- When a run with its choice has closed a lasso. docs/RULES.md, "The recorder", as the third demand reads it. Definitions only. Assumes nothing.
 use mathlib.Core.Path.{_≡_}
 use mathlib.Core.List.{List}
 use Prim.Native.Nat.{ℕ, suc}

@@ -1,4 +1,4 @@
--- The recorder. Document 01, "The recorder": the record, its step with a save wish, which records are bad. Then the runs of records and the
+-- The recorder. docs/RULES.md, "The recorder": the record, its step with a save wish, which records are bad. Then the runs of records and the
 -- two ways between them and the original's runs, for the third demand. Definitions only. Assumes nothing.
 use mathlib.Core.Path.{_≡_}
 use mathlib.Core.Bool.{Bool, true, false, not, cond, _&&_}

@@ -1,4 +1,4 @@
--- What the record's methods say. Document 01, "The recorder". A method is told a few numbers of the block, and its answer is the one of the
+-- What the record's methods say. docs/RULES.md, "The recorder". A method is told a few numbers of the block, and its answer is the one of the
 -- rules for every block that has these numbers. Last, that each statement settles its answer. Assumes nothing.
 use mathlib.Core.Path.{_≡_, refl, sym, _∙_}
 use mathlib.Core.Bool.{Bool, false}

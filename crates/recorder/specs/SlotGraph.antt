@@ -1,5 +1,5 @@
 -- The graph that the search walks: its nodes are slot numbers, its edges the steps of their records, and a node's label the
--- record's number in a tie. Document 01, "The recorder". The word of a run says where the run ends, since the labels tell apart
+-- record's number in a tie. docs/RULES.md, "The recorder". The word of a run says where the run ends, since the labels tell apart
 -- what one slot leads to. Assumes nothing.
 use mathlib.Core.Path.{_≡_, refl, sym, ap, ap₂, _∙_}
 use mathlib.Core.Bool.{Bool, true, false, cond, _&&_, true≢false}

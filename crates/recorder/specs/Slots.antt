@@ -1,4 +1,4 @@
--- Slot numbers. Document 01, "The recorder": the slot number of a record is ((s(n+1) + t)·2 + live)·2^m + v, and there are
+-- Slot numbers. docs/RULES.md, "The recorder": the slot number of a record is ((s(n+1) + t)·2 + live)·2^m + v, and there are
 -- S = n(n+1)·2^(m+1) of them. First the definitions, then the laws: both round trips and the range, over any n and m.
 -- Assumes nothing.
 use mathlib.Core.Path.{_≡_, refl, sym, ap, _∙_}

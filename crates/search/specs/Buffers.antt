@@ -1,4 +1,4 @@
--- A lent buffer whose first k words are set to 0, and the rest unchanged. Document 01, "Refusal list": "After an accepted search the first 2S
+-- A lent buffer whose first k words are set to 0, and the rest unchanged. docs/RULES.md, "Buffers": "After an accepted search the first 2S
 -- workspace words are zero and the rest unchanged". The definition and its laws, then a law of a buffer that is written downwards.
 -- Assumes nothing.
 use mathlib.Core.Path.{_≡_, sym, ap, _∙_}

@@ -1,4 +1,4 @@
--- The search of an accepted table, with buffers that are long enough: what its parts give together. Document 01, "Lasso and choice". A scan that
+-- The search of an accepted table, with buffers that are long enough: what its parts give together. docs/RULES.md, "Lasso and choice". A scan that
 -- stopped has the least lasso's numbers on its path; one that met no bad slot shows that there is no lasso. Assumes nothing.
 use mathlib.Core.Path.{_≡_, refl, sym, ap, _∙_}
 use mathlib.Core.List.{List, _++_}

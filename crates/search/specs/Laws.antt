@@ -1,5 +1,5 @@
--- Laws of a search: its answer line by line of the refusal list, and that its statement settles the answer and both buffers. Document 01, "Refusal
--- list" and "Strength of the statements". Assumes nothing.
+-- Laws of a search: its answer line by line of the refusal list, and that its statement settles the answer and both buffers.
+-- docs/RULES.md, "Refusal list" and "Strength of the statements". Assumes nothing.
 use mathlib.Core.Path.{_≡_, refl, sym, ap, ap₂, _∙_}
 use mathlib.Core.Bool.{Bool}
 use mathlib.Core.List.{List, [], _∷_, _++_}

@@ -1,4 +1,4 @@
--- What is reported of a word of numbers: the states of its letters, and how many letters are odd. Document 01, "Lasso and choice": place i has
+-- What is reported of a word of numbers: the states of its letters, and how many letters are odd. docs/RULES.md, "Lasso and choice": place i has
 -- the number 2·si, plus 1 where i ≤ l. So of a lasso's numbers, but for the last, these are s0..sk and l + 1. Assumes nothing.
 use mathlib.Core.Path.{_≡_, refl, sym, ap, ap₂, _∙_}
 use mathlib.Core.Bool.{Bool, true, false, cond}

@@ -1,4 +1,4 @@
--- What a search says. Document 01, "Lasso and choice", lines 9 and 10 of "Refusal list", and the paragraph after that list. Definitions only.
+-- What a search says. docs/RULES.md, "Lasso and choice", lines 9 and 10 of "Refusal list", and "Buffers". Definitions only.
 -- Assumes nothing.
 use mathlib.Core.Path.{_≡_}
 use mathlib.Core.List.{List, [], _∷_, _++_}

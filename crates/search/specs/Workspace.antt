@@ -1,4 +1,4 @@
--- What the workspace holds while the search runs. Document 01, "Refusal list": 2S words. The first S are the origins of the slots, by slot: 0 for
+-- What the workspace holds while the search runs. docs/RULES.md, "Refusal list": 2S words. The first S are the origins of the slots, by slot: 0 for
 -- one that was not met, 1 for a start, p + 2 where index p led to it. The next S are the queue: the slots met, in order. First the definitions,
 -- then the law of meeting a slot. Assumes nothing.
 use mathlib.Core.Path.{_≡_, refl, sym, ap, _∙_}

@@ -1,4 +1,4 @@
-// The search for the least lasso. Document 01, "Lasso and choice" and "Refusal list". The rules stand in specs/.
+// The search for the least lasso. docs/RULES.md, "Lasso and choice" and "Refusal list". The rules stand in specs/.
 mod clear;
 mod climb;
 mod meet;

@@ -1,4 +1,4 @@
--- Laws of a step. Document 01, "The recorder", "Refusal list" and "Strength of the statements": the answer line by line, that the statement
+-- Laws of a step. docs/RULES.md, "The recorder", "Refusal list" and "Strength of the statements": the answer line by line, that the statement
 -- settles it, and that a record that moved is in range and went along an edge. Assumes nothing.
 use mathlib.Core.Path.{_≡_, refl, sym, _∙_}
 use mathlib.Core.Bool.{Bool, true, false, not, true≢false}

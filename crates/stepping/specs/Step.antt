@@ -1,4 +1,4 @@
--- What moving a record along an edge answers. Document 01, "The recorder" (a step with a save wish) and lines 12 and 13 of "Refusal list".
+-- What moving a record along an edge answers. docs/RULES.md, "The recorder" (a step with a save wish) and lines 12 and 13 of "Refusal list".
 -- Definitions only. Assumes nothing.
 use mathlib.Core.Bool.{Bool, not, _&&_}
 use mathlib.Core.List.{List, [], _∷_}

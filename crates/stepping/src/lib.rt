@@ -1,4 +1,4 @@
-// Moving one record along one edge of a table. Document 01, "The recorder" and lines 12 and 13 of "Refusal list". The rules stand in specs/.
+// Moving one record along one edge of a table. docs/RULES.md, "The recorder" and lines 12 and 13 of "Refusal list". The rules stand in specs/.
 ghost use mathlib.Core.Path.{_≡_};
 ghost use Prim.Native.Nat.{_≤_};
 ghost use Rattle.stepping.specs.Step.{recordFits, steppedOf};

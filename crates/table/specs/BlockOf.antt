@@ -1,4 +1,4 @@
--- The block that an accepted table is. Document 01, "The table file": rows, targets and marks. Definitions only. Assumes nothing.
+-- The block that an accepted table is. docs/RULES.md, "The table file": rows, targets and marks. Definitions only. Assumes nothing.
 use mathlib.Core.Bool.{_&&_}
 use mathlib.Core.List.{List}
 use mathlib.Core.Option.{Option}

@@ -1,4 +1,4 @@
--- The first index at which a test passes. Document 01, "Refusal list" ("first such index", "first such state") and "Quote sheet"
+-- The first index at which a test passes. docs/RULES.md, "Refusal list" ("first such index", "first such state") and "Quote sheet"
 -- ("the first row below"). First the definition, then its laws. Assumes nothing.
 use mathlib.Core.Path.{_≡_, refl, sym, ap, _∙_}
 use mathlib.Core.Bool.{Bool, true, false, true≢false, false≢true}

@@ -1,4 +1,4 @@
--- The refusal list's order, and that every job goes down it. Document 01, "Refusal list": of the lines that apply, the first in the list is given.
+-- The refusal list's order, and that every job goes down it. docs/RULES.md, "Refusal list": of the lines that apply, the first in the list is given.
 -- The order is that of positions in the list, not of numbers, so a line may be put in between. First the definitions, then the laws, over any list
 -- of lines. Assumes nothing.
 use mathlib.Core.Path.{_≡_, refl, sym}

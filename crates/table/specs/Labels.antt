@@ -1,4 +1,4 @@
--- The labels of what a slot leads to: the tie number 2·s′, plus 1 where nothing is saved afterwards. Document 01, "Lasso and choice". Assumes
+-- The labels of what a slot leads to: the tie number 2·s′, plus 1 where nothing is saved afterwards. docs/RULES.md, "Lasso and choice". Assumes
 -- nothing.
 use mathlib.Core.Path.{_≡_, refl, sym, ap, _∙_}
 use mathlib.Core.Bool.{Bool, true, false, cond}

@@ -1,4 +1,4 @@
--- Where a table's numbers stand in its bytes. Document 01, "The table file". Definitions only. Assumes nothing.
+-- Where a table's numbers stand in its bytes. docs/RULES.md, "The table file". Definitions only. Assumes nothing.
 use mathlib.Core.List.{List, [], _∷_}
 use Prim.Native.Nat.{ℕ, _+_, _*_, _/_, _%_}
 use lib.ListN.{getD}

@@ -1,4 +1,4 @@
--- Numbers that were written as bytes are read back. Document 01, "The table file": little-endian 32-bit numbers. Assumes nothing.
+-- Numbers that were written as bytes are read back. docs/RULES.md, "The table file": little-endian 32-bit numbers. Assumes nothing.
 use mathlib.Core.Path.{_≡_, sym, ap, _∙_}
 use mathlib.Core.List.{List, [], _∷_, _++_}
 use Prim.Native.Nat.{ℕ, zero, suc, _+_, _*_, _/_, _%_, _<_}

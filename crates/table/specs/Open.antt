@@ -1,4 +1,4 @@
--- Which tables are accepted, and which refusal every other gets. Document 01, "The table file" and lines 1 to 8 of "Refusal list".
+-- Which tables are accepted, and which refusal every other gets. docs/RULES.md, "The table file" and lines 1 to 8 of "Refusal list".
 -- Definitions only. Assumes nothing.
 use mathlib.Core.Bool.{Bool, true, false, not, _&&_, _||_}
 use mathlib.Core.List.{List, [], _∷_}

@@ -1,4 +1,4 @@
--- The recorded table of an accepted one: its slots, the slot graph, and what a slot leads to. Document 01, "The recorder". First the definitions,
+-- The recorded table of an accepted one: its slots, the slot graph, and what a slot leads to. docs/RULES.md, "The recorder". First the definitions,
 -- then the laws that what a step gives is in range and has the slot that the rules say. Assumes nothing.
 use mathlib.Core.Path.{_≡_, refl, _∙_}
 use mathlib.Core.Bool.{Bool, true}

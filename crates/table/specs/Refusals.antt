@@ -1,4 +1,4 @@
--- The refusal list's numbers and places. Document 01, "Refusal list". The place is 0 where not named. Definitions only.
+-- The refusal list's numbers and places. docs/RULES.md, "Refusal list". The place is 0 where not named. Definitions only.
 -- Assumes nothing.
 use Prim.Native.Nat.{ℕ}
 use Rattle.table.specs.declared.refusal.Refusal.{Refusal}

@@ -1,6 +1,5 @@
--- Laws of one row of a well-formed table: it is not empty, its targets rise, and an edge leads to just one of them. Document 01, "The table
--- file". Whoever follows a row from its first target to its last is told by the target where it stands what was passed.
--- Assumes nothing.
+-- Laws of one row of a well-formed table: it is not empty, its targets rise, and an edge leads to just one of them. docs/RULES.md, "The table file".
+-- Whoever follows a row from its first target to its last is told by the target where it stands what was passed. Assumes nothing.
 use mathlib.Core.Path.{_≡_, refl, ap}
 use mathlib.Core.Bool.{true}
 use mathlib.Core.Logic.{_⊎_, inl, inr}

@@ -1,4 +1,4 @@
--- Opening accepts exactly the tables that document 01, "The table file", describes. First the description, as a record, then what
+-- Opening accepts exactly the tables that docs/RULES.md, "The table file", describes. First the description, as a record, then what
 -- each line of the refusal list says where it is not given, then the theorem. Assumes nothing.
 use mathlib.Core.Path.{_≡_, refl, ap, _∙_}
 use mathlib.Core.Bool.{Bool, true, false, true≢false}

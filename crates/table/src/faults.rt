@@ -1,4 +1,4 @@
-// The tests of the refusal list's lines 3 to 8, one function a line. Document 01, "Refusal list".
+// The tests of the refusal list's lines 3 to 8, one function a line. docs/RULES.md, "Refusal list".
 ghost use mathlib.Core.Path.{_≡_};
 ghost use Prim.Native.Nat.{ℕ, _+_, _≤_, _<_};
 ghost use lib.Dec.{eqb};

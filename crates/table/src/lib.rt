@@ -1,4 +1,4 @@
-// The table file: opening it, and reading an accepted one. Document 01, "The table file" and "Refusal list". The rules stand in specs/.
+// The table file: opening it, and reading an accepted one. docs/RULES.md, "The table file" and "Refusal list". The rules stand in specs/.
 mod faults;
 mod read;
 mod refusal;

@@ -1,4 +1,4 @@
-// The refusal list as an enum, with its numbers and places. Document 01, "Refusal list".
+// The refusal list as an enum, with its numbers and places. docs/RULES.md, "Refusal list".
 ghost use mathlib.Core.Path.{_≡_};
 ghost use Rattle.table.specs.Refusals.{numberOf, placeOf};
 

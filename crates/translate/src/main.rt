@@ -1,5 +1,5 @@
-// The program translate: reads a table from standard input and writes the translated table to standard output, or the `refused` line. Document 01, the
-// end of "Tables by hand". It only reads and writes; the bytes are made by lines::translate.
+// The program translate: reads a table from standard input and writes the translated table to standard output, or the `refused` line.
+// docs/RULES.md, "What the programs print". It only reads and writes; the bytes are made by lines::translate.
 ghost use mathlib.Core.Path.{_≡_};
 ghost use lib.ListN.{length};
 

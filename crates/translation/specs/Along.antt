@@ -1,5 +1,5 @@
 -- The step from slot p along an edge, as the code takes it: once for a whole row, to state 0. Along an edge to s′ the slot is s′ times the slots of a
--- state further on. Document 01, "The recorder": the slot number. Assumes nothing.
+-- state further on. docs/RULES.md, "The recorder": the slot number. Assumes nothing.
 use mathlib.Core.Path.{_≡_, sym, ap, ap₂, _∙_}
 use mathlib.Core.Bool.{Bool}
 use mathlib.Core.List.{List}

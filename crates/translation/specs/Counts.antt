@@ -1,4 +1,4 @@
--- The sizes of the translated file. Document 01, "The recorder": each slot's row has, for each edge of its state, one target where something is
+-- The sizes of the translated file. docs/RULES.md, "Translated table": each slot's row has, for each edge of its state, one target where something is
 -- saved and two where nothing is, so that all rows together have E = e(n+2)·2^(m+1) targets and the file has 32 + 5S + 4E bytes. The rows are
 -- counted in three inductions: over the flags and bits of one state and one saved t, over the t, over the states. Assumes nothing.
 use mathlib.Core.Path.{_≡_, refl, ap, _∙_}

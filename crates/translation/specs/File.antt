@@ -1,4 +1,4 @@
--- The translated table as a file. Document 01, "The recorder", the paragraph of the translated table: kind 2, m written 0, one state for each slot,
+-- The translated table as a file. docs/RULES.md, "Translated table": kind 2, m written 0, one state for each slot,
 -- in the layout of "The table file". Definitions only. Assumes nothing.
 use mathlib.Core.Bool.{Bool, true, false, cond, _&&_}
 use mathlib.Core.List.{List, [], _∷_, _++_}

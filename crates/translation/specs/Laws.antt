@@ -1,5 +1,5 @@
--- Laws of a translation: its answer line by line of the refusal list, its output part by part, and that its statement settles both. Document 01,
--- "Refusal list" and "Strength of the statements". Assumes nothing.
+-- Laws of a translation: its answer line by line of the refusal list, its output part by part, and that its statement settles both.
+-- docs/RULES.md, "Refusal list" and "Strength of the statements". Assumes nothing.
 use mathlib.Core.Path.{_≡_, refl, sym, ap, _∙_}
 use mathlib.Core.List.{List, [], _++_}
 use mathlib.Core.Option.{Option, none, some}

@@ -1,4 +1,4 @@
--- The row of a slot holds exactly what the slot leads to, rising strictly. Document 01, "The recorder" and "The table file". Assumes nothing.
+-- The row of a slot holds exactly what the slot leads to, rising strictly. docs/RULES.md, "Translated table" and "The table file". Assumes nothing.
 use mathlib.Core.Path.{_≡_, refl, ap, _∙_}
 use mathlib.Core.Bool.{Bool, true, false, cond, true≢false}
 use mathlib.Core.List.{List, [], _∷_, _++_}

@@ -1,5 +1,5 @@
--- The marks of the translated file: start, goal and bad are the record's. Document 01, "The recorder": bit 0 start, bit 1 the goal mark of s, bit 6
--- bad. Assumes nothing.
+-- The marks of the translated file: start, goal and bad are the record's. docs/RULES.md, "Translated table": bit 0 start, bit 1 the goal mark of s,
+-- bit 6 bad. Assumes nothing.
 use mathlib.Core.Path.{_≡_, refl, sym, ap, ap₂, _∙_}
 use mathlib.Core.Bool.{Bool, true, false, _&&_, true≢false}
 use mathlib.Core.Logic.{_↔_}

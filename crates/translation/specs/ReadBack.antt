@@ -1,5 +1,5 @@
 -- The translated file, read back with the table's own reading functions: its counts, row starts, targets and marks; from slot p to
--- slot q there is an edge exactly if the slot graph has one; rows rise strictly. Document 01, "The recorder". Assumes nothing.
+-- slot q there is an edge exactly if the slot graph has one; rows rise strictly. docs/RULES.md, "Translated table". Assumes nothing.
 use mathlib.Core.Path.{_≡_, refl, sym, ap, _∙_}
 use mathlib.Core.Bool.{true}
 use mathlib.Core.Logic.{_↔_}

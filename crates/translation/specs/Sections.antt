@@ -1,5 +1,5 @@
--- A file of a header and three sections is read back, whatever follows it: number by number, and mark by mark. Document 01, "The table file". Assumes
--- nothing.
+-- A file of a header and three sections is read back, whatever follows it: number by number, and mark by mark. docs/RULES.md, "The table file".
+-- Assumes nothing.
 use mathlib.Core.Path.{_≡_, ap, _∙_}
 use mathlib.Core.List.{List, _++_}
 use Prim.Native.Nat.{ℕ, _+_, _*_, _<_}

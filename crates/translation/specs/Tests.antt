@@ -1,4 +1,4 @@
--- The definitions, tried on table c of document 01, "Tables by hand": one state with a self edge. The numbers are those of that section's last part.
+-- The definitions, tried on table c of docs/RULES.md, "Tables by hand": one state with a self edge. Its numbers stand in "Translated table".
 -- Assumes nothing.
 use mathlib.Core.Path.{_≡_, refl}
 use mathlib.Core.List.{List, [], _∷_, _++_}

@@ -1,5 +1,5 @@
--- What a translation says. Document 01, line 11 of "Refusal list" and "Translate changes exactly the first 32 + 5S + 4E bytes". Definitions only.
--- Assumes nothing.
+-- What a translation says. docs/RULES.md, "Refusal list", line 11, and "Buffers": "Translate changes exactly the first 32 + 5S + 4E bytes".
+-- Definitions only. Assumes nothing.
 use mathlib.Core.Path.{_≡_}
 use mathlib.Core.List.{List, [], _∷_, _++_}
 use mathlib.Core.Option.{Option, none, some}

@@ -1,4 +1,4 @@
-// The translated table. Document 01, "The recorder" (its last paragraph) and line 11 of "Refusal list". The rules stand in specs/.
+// The translated table. docs/RULES.md, "Translated table" and line 11 of "Refusal list". The rules stand in specs/.
 mod marks;
 mod put;
 mod rows;

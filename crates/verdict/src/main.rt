@@ -1,4 +1,4 @@
-// The program verdict: reads a table from standard input and prints its quote and its least lasso. Document 01, the end of "Tables by hand". It only
+// The program verdict: reads a table from standard input and prints its quote and its least lasso. docs/RULES.md, "What the programs print". It only
 // reads and writes; the text is made by lines::verdict.
 ghost use mathlib.Core.Path.{_≡_};
 ghost use lib.ListN.{length};

@@ -1,4 +1,4 @@
-//! Tests of the independent program on what document 01 works out by hand ("Tables by hand", "Refusal list").
+//! Tests of the independent program on what is worked out in docs/RULES.md, "Tables by hand" and "Refusal list".
 
 use super::definition::is_lasso;
 use super::file::open;

@@ -1,5 +1,5 @@
-//! The independent program: what document 01 says of the five jobs and of the two programs, written once more from the document alone. Nothing here
-//! calls the library, and the least lasso is not found by a queue of records.
+//! The independent program: the five jobs and the two programs of docs/RULES.md, "What it answers", written once more from the rules alone. Nothing
+//! here calls the library, and the least lasso is not found by a queue of records.
 
 #[cfg(test)]
 mod by_hand;

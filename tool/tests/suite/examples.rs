@@ -52,7 +52,7 @@ fn the_table_file_shows_the_text() {
     }
 }
 
-/// The twelve tables of document 01 are written without names: comments dropped, the text itself is what show writes.
+/// The twelve tables of docs/RULES.md, "Tables by hand", are written without names: comments dropped, the text itself is what show writes.
 #[test]
 fn the_small_examples_are_canonical() {
     for name in names().iter().filter(|name| name.len() == 1) {
@@ -119,7 +119,7 @@ fn the_verdict_is_what_the_library_says() {
     }
 }
 
-/// The lines that the program `verdict` prints. Reads document 01, "Tables by hand", at its end.
+/// The lines that the program `verdict` prints. Reads docs/RULES.md, "What the programs print".
 pub fn verdict_of(table: &[u8]) -> String {
     let sheet = lasso::quote(table).expect("an accepted table");
     let mut workspace = vec![0; 2 * sheet.slots];

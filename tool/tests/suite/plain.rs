@@ -1,4 +1,4 @@
-//! The tests' own view of a table, its bytes and its canonical text. Reads document 01, "The table file". It shares nothing with the tool, so that
+//! The tests' own view of a table, its bytes and its canonical text. Reads docs/RULES.md, "The table file". It shares nothing with the tool, so that
 //! an error of the tool that undoes itself on the way back is seen.
 
 #[derive(Clone, Debug, PartialEq, Eq)]

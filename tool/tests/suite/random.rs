@@ -1,4 +1,4 @@
-//! Random accepted tables, and random text forms of a table. Reads document 01, "The table file".
+//! Random accepted tables, and random text forms of a table. Reads docs/RULES.md, "The table file".
 use crate::plain::Plain;
 
 const MOST_EDGES: usize = 1024;

@@ -1,4 +1,4 @@
-//! Table files that the library refuses: number, place and words, status 1. Reads document 01, "Refusal list".
+//! Table files that the library refuses: number, place and words, status 1. Reads docs/RULES.md, "Refusal list".
 use crate::command::assert_fails;
 use crate::samples::bytes;
 
