@@ -1,18 +1,34 @@
-/* The five jobs from C, on a table file: example TABLE. Prints what each answers. Compiled by
+/* The five jobs from C, on a table file: example TABLE. Prints what each answers, refusals in words. Compiled by
  *
  *     gcc -std=c11 -Wall -Wextra -O2 -Ibindings bindings/example.c target/staticlib/liblasso.a -o example
  */
 #include "lasso.h"
 
+#if LASSO_VERSION_MAJOR != 4
+#error "this example is written for version 4 of lasso.h"
+#endif
+
 #include <stdio.h>
 #include <stdlib.h>
 
 /* One byte more than the longest table, so that a longer file is refused and not cut to a table. */
-static uint8_t table[4449];
+static uint8_t table[LASSO_MOST_TABLE_BYTES + 1];
 
 static int refused(const char *job, uint32_t number, const size_t *answer) {
-    printf("%s: refused %u, place %zu\n", job, (unsigned)number, answer[LASSO_PLACE]);
+    printf("%s: refused %u %zu: %s", job, (unsigned)number, answer[LASSO_PLACE], lasso_words(number));
+    if (*lasso_place_words(number) != '\0')
+        printf("; %s %zu", lasso_place_words(number), answer[LASSO_PLACE]);
+    printf("\n");
     return 1;
+}
+
+static void print_board(size_t board) {
+    if (board == LASSO_NO_BOARD) {
+        printf("no board\n");
+        return;
+    }
+    const struct lasso_board *row = &lasso_boards[board];
+    printf("board %c of %zu slots and %zu edges\n", row->letter, row->slots, row->edges);
 }
 
 int main(int count, char **words) {
@@ -33,9 +49,9 @@ int main(int count, char **words) {
     number = lasso_quote(table, length, quoted);
     if (number != LASSO_DONE)
         return refused("quote", number, quoted);
-    printf("quote: %zu slots, %zu edges, %zu bytes, board %zu, members %zu %zu %zu %zu\n", quoted[LASSO_SLOTS], quoted[LASSO_SLOT_EDGES],
-           quoted[LASSO_BYTES], quoted[LASSO_BOARD], quoted[LASSO_MEMBERS], quoted[LASSO_MEMBERS + 1], quoted[LASSO_MEMBERS + 2],
-           quoted[LASSO_MEMBERS + 3]);
+    printf("quote: %zu slots, %zu edges, %zu bytes, members %zu %zu %zu %zu, ", quoted[LASSO_SLOTS], quoted[LASSO_SLOT_EDGES],
+           quoted[LASSO_BYTES], quoted[LASSO_MEMBERS], quoted[LASSO_MEMBERS + 1], quoted[LASSO_MEMBERS + 2], quoted[LASSO_MEMBERS + 3]);
+    print_board(quoted[LASSO_BOARD]);
 
     const size_t slots = quoted[LASSO_SLOTS];
     uint32_t *workspace = malloc(2 * slots * sizeof *workspace);
@@ -70,6 +86,11 @@ int main(int count, char **words) {
     if (number != LASSO_DONE)
         return refused("step 0 to 0", number, moved);
     printf("step 0 to 0, saving: s %zu, t %zu, live %zu, v %zu\n", moved[LASSO_S], moved[LASSO_T], moved[LASSO_LIVE], moved[LASSO_V]);
+
+    table[length - 1] |= LASSO_MARK_BAD;
+    number = lasso_open(table, length, opened);
+    if (number != LASSO_DONE)
+        refused("open, last mark changed", number, opened);
 
     free(workspace);
     free(report);

@@ -7,8 +7,48 @@
  * The caller owns every buffer. A pointer may be null only where its length is 0. The table is never changed. Buffers must not overlap. No function
  * reads or writes outside the length that it is given; the bytes of the table may be anything.
  *
+ * Threads: all functions may be called from many threads at once. Threads may share a table while nobody writes to it. Workspace, report, output and
+ * answer must be each thread's own.
+ *
  * Each function returns 0, or the number of the refusal: see the list below. It always fills all words of `answer`. answer[LASSO_PLACE] is the
  * refusal's place, or 0. The other words are 0 where the job is refused. A refused job changes no other buffer.
+ *
+ *
+ * The table file
+ *
+ * Numbers have 32 bits, the lowest byte first, except for the marks, which are bytes. There is no padding. n is the number of states, e the number of
+ * edges, m the number of fairness sets.
+ *
+ *     from byte           how many    what
+ *     0                   1           kind: 1
+ *     4                   1           n, from 1 to 64
+ *     8                   1           e, from 1 to 1,024
+ *     12                  1           m, from 0 to 4
+ *     16                  1           offset of the row starts: 28
+ *     20                  1           offset of the targets: 28 + 4(n+1)
+ *     24                  1           offset of the marks: 28 + 4(n+1) + 4e
+ *     28                  n+1         row starts: the first is 0, none is below the one before, the last is e
+ *     28 + 4(n+1)         e           targets: each below n
+ *     28 + 4(n+1) + 4e    n bytes     marks: one byte a state
+ *
+ * The length is exactly 32 + 5n + 4e bytes. States are numbered from 0. The targets of state s are the states to which it has an edge; they stand
+ * from row start s up to, not including, row start s+1. They rise strictly within the row, and no row is empty.
+ *
+ * In a mark, LASSO_MARK_START is set for a start state, LASSO_MARK_GOAL for a state with the goal, LASSO_MARK_SET_0 to LASSO_MARK_SET_3 for a member
+ * of that fairness set. All other bits are clear, and so are those of sets not below m. A table may have no start state, no state with the goal, and
+ * sets without members.
+ *
+ * An example with the edges 0 to 0, 0 to 1 and 1 to 1, start state 0, and state 1 in set 0, in 54 bytes:
+ *
+ *     header:     1 2 3 1 28 40 52
+ *     row starts: 0 2 3
+ *     targets:    0 1 1
+ *     marks:      1 4
+ *
+ * The translated table, which lasso_translate writes, has the same layout with kind 2, S for n, E for e, and 0 for m. It has a state for each record
+ * s, t, live, v (see lasso_step), with the number ((s(n+1) + t)*2 + live)*2^m + v. S = n(n+1)*2^(m+1), E = e(n+2)*2^(m+1), and the length is
+ * 32 + 5S + 4E bytes. In its marks LASSO_MARK_START is set where s is a start state, t is n, and live and v are 0; LASSO_MARK_GOAL where s has the
+ * goal; LASSO_MARK_BAD where s is t, live is 0 and v has the bits of all m sets. The rest is clear. lasso_open does not accept this table.
  */
 #ifndef LASSO_H
 #define LASSO_H
@@ -21,7 +61,61 @@
 extern "C" {
 #endif
 
-/* The numbers that are returned. The lowest that applies is given; the place is 0 where none is named. */
+/* The version of this header and of the library that it belongs to. The archive itself does not tell its version. */
+#define LASSO_VERSION "4.0.0"
+#define LASSO_VERSION_MAJOR 4
+#define LASSO_VERSION_MINOR 0
+#define LASSO_VERSION_PATCH 0
+
+/* The kind of a table file. */
+enum {
+    LASSO_KIND_CLIENT = 1,    /* a client's table, the only kind that is opened */
+    LASSO_KIND_TRANSLATED = 2 /* what lasso_translate writes */
+};
+
+/* The bits of a mark. */
+enum {
+    LASSO_MARK_START = 1,
+    LASSO_MARK_GOAL = 2,
+    LASSO_MARK_SET_0 = 4,
+    LASSO_MARK_SET_1 = 8,
+    LASSO_MARK_SET_2 = 16,
+    LASSO_MARK_SET_3 = 32,
+    LASSO_MARK_BAD = 64 /* in a translated table only */
+};
+
+/* The most that there can be. Buffers of these lengths serve every table. A buffer into which a file is read wants one byte more than the longest
+ * table has, so that a longer file is refused and not cut to a table. */
+enum {
+    LASSO_MOST_STATES = 64,              /* n */
+    LASSO_MOST_EDGES = 1024,             /* e */
+    LASSO_MOST_SETS = 4,                 /* m */
+    LASSO_MOST_TABLE_BYTES = 4448,       /* 32 + 5n + 4e */
+    LASSO_MOST_SLOTS = 133120,           /* S */
+    LASSO_MOST_SLOT_EDGES = 2162688,     /* E */
+    LASSO_MOST_WORKSPACE_WORDS = 266240, /* 2S, for lasso_search */
+    LASSO_MOST_REPORT_WORDS = 133120,    /* S, for lasso_search */
+    LASSO_MOST_OUTPUT_BYTES = 9316384    /* 32 + 5S + 4E, for lasso_translate */
+};
+
+/* The boards by their number in the quote. A table takes the first that has room for its slots and its edges, or none. */
+enum { LASSO_BOARDS = 8, LASSO_NO_BOARD = 8 };
+struct lasso_board {
+    char letter;
+    size_t slots, edges;
+};
+static const struct lasso_board lasso_boards[LASSO_BOARDS] = {
+    {'A', 64, 256},
+    {'B', 256, 1024},
+    {'C', 1024, 4096},
+    {'D', 4096, 16384},
+    {'E', 8192, 65536},
+    {'F', 16384, 131072},
+    {'G', 32768, 262144},
+    {'H', 65536, 1048576},
+};
+
+/* The numbers that are returned. Where more than one applies, the first in this order is given; the place is 0 where none is named. */
 enum {
     LASSO_DONE = 0,
     LASSO_TOO_SHORT = 1,       /* fewer than 28 bytes */
@@ -39,6 +133,37 @@ enum {
     LASSO_NO_EDGE = 13         /* step: no edge from s to next */
 };
 
+/* A refusal in words; s' is the argument `next`. The text is constant, and never null. */
+static inline const char *lasso_words(uint32_t number) {
+    switch (number) {
+    case LASSO_TOO_SHORT: return "fewer than 28 bytes";
+    case LASSO_WRONG_KIND: return "kind is not 1";
+    case LASSO_WRONG_COUNT: return "n, e or m outside its range";
+    case LASSO_WRONG_LAYOUT: return "an offset or the length is not the computed one";
+    case LASSO_WRONG_ROW_START: return "a row start is wrong: first not 0, below the one before, above e, or last not e";
+    case LASSO_WRONG_TARGET: return "a target is n or more, or not above the one before it in its row";
+    case LASSO_EMPTY_ROW: return "an empty row";
+    case LASSO_WRONG_MARK: return "a mark bit that must be clear is set";
+    case LASSO_SHORT_WORKSPACE: return "search: fewer than 2S workspace words";
+    case LASSO_SHORT_REPORT: return "search: fewer than S report words";
+    case LASSO_SHORT_OUTPUT: return "translate: output shorter than 32 + 5S + 4E bytes";
+    case LASSO_WRONG_RECORD: return "step: s or s' not below n, t above n, or v not below 2^m";
+    case LASSO_NO_EDGE: return "step: s to s' is not an edge";
+    default: return "no line of the refusal list";
+    }
+}
+
+/* What the place of a refusal is, in words; empty where none is named. The text is constant, and never null. */
+static inline const char *lasso_place_words(uint32_t number) {
+    switch (number) {
+    case LASSO_WRONG_ROW_START: return "first such index";
+    case LASSO_WRONG_TARGET: return "first such index";
+    case LASSO_EMPTY_ROW: return "first such state";
+    case LASSO_WRONG_MARK: return "first such state";
+    default: return "";
+    }
+}
+
 /* The first word of every answer. */
 enum { LASSO_PLACE = 0 };
 
@@ -46,8 +171,8 @@ enum { LASSO_PLACE = 0 };
 enum { LASSO_STATES = 1, LASSO_EDGES = 2, LASSO_SETS = 3, LASSO_OPEN_WORDS = 4 };
 uint32_t lasso_open(const uint8_t *table, size_t table_length, size_t answer[LASSO_OPEN_WORDS]);
 
-/* The size of the recorded table: S slots, E edges, the bytes of its translation, the board (0 to 7 for A to H, 8 for none) and the number of members
- * of fairness sets 0 to 3, at LASSO_MEMBERS and the three words after it. */
+/* The size of the recorded table: S slots, E edges, the bytes of its translation, the board (its place in lasso_boards, or LASSO_NO_BOARD) and the
+ * number of members of fairness sets 0 to 3, at LASSO_MEMBERS and the three words after it. */
 enum { LASSO_SLOTS = 1, LASSO_SLOT_EDGES = 2, LASSO_BYTES = 3, LASSO_BOARD = 4, LASSO_MEMBERS = 5, LASSO_QUOTE_WORDS = 9 };
 uint32_t lasso_quote(const uint8_t *table, size_t table_length, size_t answer[LASSO_QUOTE_WORDS]);
 
@@ -59,7 +184,8 @@ enum { LASSO_FOUND = 1, LASSO_K = 2, LASSO_L = 3, LASSO_SEARCH_WORDS = 4 };
 uint32_t lasso_search(const uint8_t *table, size_t table_length, uint32_t *workspace, size_t workspace_length, uint32_t *report,
                       size_t report_length, size_t answer[LASSO_SEARCH_WORDS]);
 
-/* Writes the translated table over the first bytes of the output and says how many; the rest of the output is as it was. */
+/* Writes the translated table over the first bytes of the output and says how many (lasso_quote tells it beforehand); the rest of the output is as it
+ * was. */
 enum { LASSO_WRITTEN = 1, LASSO_TRANSLATE_WORDS = 2 };
 uint32_t lasso_translate(const uint8_t *table, size_t table_length, uint8_t *output, size_t output_length,
                          size_t answer[LASSO_TRANSLATE_WORDS]);
