@@ -7,7 +7,7 @@ use crate::sides::ratios;
 /// What the columns are and how they were measured, for the top of the output.
 fn method(rounds: usize, verified: usize) -> String {
     format!(
-        "plain: safe Rust as one would write it down from document 01, by the library's method.\n\
+        "plain: safe Rust as one would write it down from the rules, by the library's method.\n\
          tuned: safe Rust that may take another way: vector loops in open, four counts in one word in quote, no live records in search, blocks in \
          translate.\n\
          Times are ns a call, the median of {rounds} rounds of about 1 ms, or of one call where that takes longer; the three take turns. Before \

@@ -1,6 +1,9 @@
 //! The lines of the text form: comments and blank lines dropped, the rest cut into words. Also the error that names a line.
 use std::fmt::Display;
 
+/// Some editors put it before a text.
+const BYTE_ORDER_MARK: char = '\u{feff}';
+
 /// What is wrong with a text, and on which line, counted from 1.
 #[derive(Clone, Debug, PartialEq, Eq)]
 pub struct Error {
@@ -36,8 +39,15 @@ pub fn lines(bytes: &[u8]) -> Result<Vec<Line<'_>>, Error> {
     }
     let text = match std::str::from_utf8(bytes) {
         Ok(text) => text,
-        Err(error) => return Err(Error::new(line_at(bytes, error.valid_up_to()), "bytes that are not UTF-8", "text")),
+        Err(error) => {
+            return Err(Error::new(
+                line_at(bytes, error.valid_up_to()),
+                "bytes that are not UTF-8",
+                "text (a table file has a zero byte, and this has none)",
+            ))
+        }
     };
+    let text = text.strip_prefix(BYTE_ORDER_MARK).unwrap_or(text);
     let numbered = (1..).zip(text.lines()).map(|(number, line)| Line { number, words: words(line) });
     Ok(numbered.filter(|line| !line.words.is_empty()).collect())
 }
@@ -72,6 +82,13 @@ mod tests {
     }
 
     #[test]
+    fn a_byte_order_mark_is_skipped_at_the_start_alone() {
+        let words = |bytes| lines(bytes).unwrap().iter().map(|line| line.words.join(" ")).collect::<Vec<_>>();
+        assert_eq!(words(b"\xef\xbb\xbfa b\nc"), ["a b", "c"]);
+        assert_eq!(words(b"a\n\xef\xbb\xbfc"), ["a", "\u{feff}c"]);
+    }
+
+    #[test]
     fn what_is_no_text_is_an_error_on_its_line() {
         let zero = lines(b"a\nb\0\n").unwrap_err();
         assert_eq!(
@@ -79,6 +96,12 @@ mod tests {
             (2, "found a zero byte, expected text (is this a table file?)")
         );
         let latin = lines(b"a\n\n# \xe9\n").unwrap_err();
-        assert_eq!((latin.line, latin.message.as_str()), (3, "found bytes that are not UTF-8, expected text"));
+        assert_eq!(
+            (latin.line, latin.message.as_str()),
+            (
+                3,
+                "found bytes that are not UTF-8, expected text (a table file has a zero byte, and this has none)"
+            )
+        );
     }
 }

@@ -1,114 +1,100 @@
-//! The command line: which command, which input, and the exit status. Each command is a short way through the library beside this file.
+//! The command line of the tool `table`: which command, which input, and the exit status. Each command is a short way through the library beside this
+//! file.
 use std::env::args_os;
-use std::ffi::OsString;
-use std::fs;
-use std::io::{self, Read, Write};
+use std::ffi::{OsStr, OsString};
 use std::process::ExitCode;
 use table::answer::answer;
+use table::ending::{say, Ending, FAILED};
+use table::given::Given;
 use table::picture::picture;
-use table::read_file::read_file;
-use table::read_text::read_text;
-use table::recognise::is_table_file;
-use table::refusal::in_words;
-use table::write_file::write_file;
+use table::streams::{read, shown, write, Input, STANDARD};
 use table::write_text::write_text;
 
-const USAGE: &str = "\
-usage: table make [FILE]      text form to table file
-       table show [FILE]      table file to text form
-       table picture [FILE]   table file or text form to Graphviz text
-       table help             this text
-Without FILE standard input is read. The result is written to standard output.
-Exit status: 0 done, 1 the table is refused, 2 wrong use, wrong text, or a file that cannot be read or written.
-";
+const USAGE: &str = include_str!("../usage.txt");
 
-enum Failure {
-    WrongUse,
-    Error(String),
-    Refused(String),
-}
+/// The output, and the table that it was made from.
+type Made = Result<(Vec<u8>, Given), String>;
 
-struct Input {
-    name: String,
-    bytes: Vec<u8>,
+enum Asked {
+    Help,
+    Command(fn(Input) -> Made, OsString),
 }
 
 fn main() -> ExitCode {
     let words: Vec<OsString> = args_os().skip(1).collect();
-    let (message, status) = match run(&words).and_then(|output| write(&output)) {
-        Ok(()) => return ExitCode::SUCCESS,
-        Err(Failure::WrongUse) => (USAGE.to_string(), 2),
-        Err(Failure::Error(message)) => (format!("table: {message}\n"), 2),
-        Err(Failure::Refused(message)) => (format!("table: {message}\n"), 1),
-    };
-    // Where standard error is shut there is nobody left to tell.
-    let _ = io::stderr().write_all(message.as_bytes());
-    ExitCode::from(status)
-}
-
-/// All of the output is made before any is written, so an error leaves standard output empty.
-fn run(words: &[OsString]) -> Result<Vec<u8>, Failure> {
-    let (command, file) = match words {
-        [command] => (command, None),
-        [command, file] => (command, Some(file)),
-        _ => return Err(Failure::WrongUse),
-    };
-    match (command.to_str(), file) {
-        (Some("make"), file) => make(&read(file)?),
-        (Some("show"), file) => show(&read(file)?),
-        (Some("picture"), file) => draw(&read(file)?),
-        (Some("help" | "--help"), None) => Ok(USAGE.into()),
-        _ => Err(Failure::WrongUse),
-    }
-}
-
-fn make(input: &Input) -> Result<Vec<u8>, Failure> {
-    let content = read_text(&input.bytes).map_err(|error| wrong_text(input, error))?;
-    Ok(write_file(&content))
-}
-
-fn show(input: &Input) -> Result<Vec<u8>, Failure> {
-    let content = read_file(&input.bytes).map_err(|refusal| refused(input, refusal))?;
-    Ok(write_text(&content).into())
-}
-
-fn draw(input: &Input) -> Result<Vec<u8>, Failure> {
-    let is_file = is_table_file(&input.bytes);
-    let content = if is_file {
-        read_file(&input.bytes).map_err(|refusal| refused(input, refusal))?
-    } else {
-        read_text(&input.bytes).map_err(|error| wrong_text(input, error))?
-    };
-    let bytes = if is_file { input.bytes.clone() } else { write_file(&content) };
-    let answer = answer(&bytes).map_err(|refusal| refused(input, refusal))?;
-    Ok(picture(&content, &answer).into())
-}
-
-fn wrong_text(input: &Input, error: table::read_text::Error) -> Failure {
-    Failure::Error(format!("{} line {}: {}", input.name, error.line, error.message))
-}
-
-fn refused(input: &Input, refusal: lasso::Refusal) -> Failure {
-    Failure::Refused(format!("{}: {}", input.name, in_words(refusal)))
-}
-
-fn read(file: Option<&OsString>) -> Result<Input, Failure> {
-    let name = file.map_or("standard input".to_string(), |file| file.to_string_lossy().into_owned());
-    let read = match file {
-        Some(file) => fs::read(file),
-        None => {
-            let mut bytes = Vec::new();
-            io::stdin().lock().read_to_end(&mut bytes).map(|_| bytes)
+    let ended = match asked(&words) {
+        Err(wrong) => {
+            say(&format!("table: {wrong}\n{USAGE}"));
+            return ExitCode::from(FAILED);
         }
+        Ok(Asked::Help) => write(USAGE.as_bytes()).map(|()| Vec::new()),
+        Ok(Asked::Command(command, file)) => run(command, &file),
     };
-    match read {
-        Ok(bytes) => Ok(Input { name, bytes }),
-        Err(error) => Err(Failure::Error(format!("cannot read {name}: {error}"))),
+    ended.map_or_else(Ending::failed, Ending::done).told("table")
+}
+
+/// All of the output is made before any is written, so an error leaves standard output empty. The answer is the warnings.
+fn run(command: fn(Input) -> Made, file: &OsStr) -> Result<Vec<String>, String> {
+    let (output, given) = command(read(file)?)?;
+    write(&output)?;
+    Ok(given.warnings())
+}
+
+/// What is asked for, or what is wrong with the words.
+fn asked(words: &[OsString]) -> Result<Asked, String> {
+    let (options, names) = split(words);
+    if let Some(option) = options.first() {
+        return match option.to_str() {
+            Some("-h" | "--help") => Ok(Asked::Help),
+            _ => Err(format!("unknown option {}", shown(option))),
+        };
+    }
+    match names.as_slice() {
+        [] => Err("no command is named".to_string()),
+        [word] if *word == "help" => Ok(Asked::Help),
+        [word, file @ ..] => {
+            let command = command(word).ok_or_else(|| format!("unknown command {}", shown(word)))?;
+            match file {
+                [file] if !file.is_empty() => Ok(Asked::Command(command, file.to_os_string())),
+                [] | [_] => Err("no file is named".to_string()),
+                _ => Err("more than one file is named".to_string()),
+            }
+        }
     }
 }
 
-fn write(output: &[u8]) -> Result<(), Failure> {
-    let mut to = io::stdout().lock();
-    let written = to.write_all(output).and_then(|()| to.flush());
-    written.map_err(|error| Failure::Error(format!("cannot write standard output: {error}")))
+/// Options and names. `--` ends the options, and `-` is none.
+fn split(words: &[OsString]) -> (Vec<&OsStr>, Vec<&OsStr>) {
+    let end = words.iter().position(|word| word == "--");
+    let (before, after) = words.split_at(end.unwrap_or(words.len()));
+    let is_option = |word: &&OsStr| word.as_encoded_bytes().starts_with(b"-") && *word != STANDARD;
+    let (options, mut names): (Vec<&OsStr>, Vec<&OsStr>) = before.iter().map(OsString::as_os_str).partition(is_option);
+    names.extend(after.iter().skip(1).map(OsString::as_os_str));
+    (options, names)
+}
+
+fn command(word: &OsStr) -> Option<fn(Input) -> Made> {
+    match word.to_str()? {
+        "make" => Some(make),
+        "show" => Some(show),
+        "picture" => Some(draw),
+        _ => None,
+    }
+}
+
+fn make(input: Input) -> Made {
+    let given = Given::text(input)?;
+    Ok((given.table.clone(), given))
+}
+
+fn show(input: Input) -> Made {
+    let given = Given::table_file(input);
+    Ok((write_text(given.content()?).into(), given))
+}
+
+fn draw(input: Input) -> Made {
+    let given = Given::either(input)?;
+    let content = given.content()?;
+    let answer = answer(&given.table).map_err(|refusal| given.refused(refusal))?;
+    Ok((picture(content, &answer).into(), given))
 }

@@ -18,11 +18,12 @@ pub fn number_of(word: &str) -> Option<usize> {
 
 /// Where the word may not be a name: what is expected in its place.
 ///
-/// The form's own words are no names. Otherwise `state start -> 0` would be a state named "start" without the mark.
+/// The form's own words are no names. Otherwise `state start -> 0` would be a state named "start" without the mark. Nor is a word that begins with
+/// '-': `sets -1` is a slip for a count, and `-` or `-->` one for the arrow.
 pub fn why_no_name(word: &str) -> Option<&'static str> {
     let spelled = word.chars().all(|c| c.is_ascii_alphanumeric() || "_.-".contains(c));
-    if !spelled || word.starts_with(|c: char| c.is_ascii_digit()) {
-        Some("a name of letters, digits, '_', '.' and '-' that does not begin with a digit")
+    if !spelled || word.starts_with(|c: char| c.is_ascii_digit() || c == '-') {
+        Some("a name of letters, digits, '_', '.' and '-' that does not begin with a digit or '-'")
     } else if [SETS, STATE, START, GOAL, IN].contains(&word) {
         Some("a name other than sets, state, start, goal and in")
     } else {
@@ -32,9 +33,14 @@ pub fn why_no_name(word: &str) -> Option<&'static str> {
 
 /// The word in quotes, on one line and not too long.
 pub fn quoted(word: &str) -> String {
+    format!("\"{}\"", cut(word))
+}
+
+/// The word on one line and not too long.
+pub fn cut(word: &str) -> String {
     let shown: String = word.chars().take(SHOWN).flat_map(char::escape_debug).collect();
     let rest = if word.chars().count() > SHOWN { ".." } else { "" };
-    format!("\"{shown}{rest}\"")
+    shown + rest
 }
 
 #[cfg(test)]
@@ -53,10 +59,12 @@ mod tests {
 
     #[test]
     fn names_are_spelled_so() {
-        for word in ["a", "_", "a_grant.b_asks", "x-1", "Start", "-"] {
+        for word in ["a", "_", "a_grant.b_asks", "x-1", "a-", "Start"] {
             assert_eq!(why_no_name(word), None, "{word}");
         }
-        for word in ["1a", "7", "->", "a,b", "a\"b", "é", "sets", "state", "start", "goal", "in"] {
+        for word in [
+            "1a", "7", "->", "-", "-1", "-a", "--", "a,b", "a\"b", "é", "sets", "state", "start", "goal", "in",
+        ] {
             assert!(why_no_name(word).is_some(), "{word}");
         }
     }

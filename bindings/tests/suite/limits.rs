@@ -41,7 +41,7 @@ fn one_more_is_refused() {
 
 #[test]
 fn the_marks_of_a_translation() {
-    // One state with a self edge, without the goal and with it: tables c and d of document 01.
+    // One state with a self edge, without the goal and with it: tables c and d of docs/RULES.md, "Tables by hand".
     for goal in [0, MARK_GOAL] {
         let mut output = [0; 76];
         let table = table(0, &[vec![0]], &[MARK_START | goal]);

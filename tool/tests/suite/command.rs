@@ -22,10 +22,14 @@ pub fn table(words: &[&str], input: &[u8]) -> Done {
     }
 }
 
-/// The output of a run that must succeed without a word on standard error.
+/// The output of a run that must succeed with no word on standard error but warnings.
 pub fn output_of(words: &[&str], input: &[u8]) -> Vec<u8> {
     let done = table(words, input);
-    assert_eq!((done.status, done.errors.as_str()), (0, ""), "table {words:?}");
+    let only_warnings = done
+        .errors
+        .lines()
+        .all(|line| line.starts_with("table: ") && line.contains(": warning: "));
+    assert!(done.status == 0 && only_warnings, "table {words:?}: {} {}", done.status, done.errors);
     done.output
 }
 
@@ -33,9 +37,9 @@ pub fn text_of(words: &[&str], input: &[u8]) -> String {
     String::from_utf8(output_of(words, input)).expect("the output is text")
 }
 
-/// Asserts that the run fails with this status and this line, and writes nothing to standard output.
-pub fn assert_fails(words: &[&str], input: &[u8], status: i32, line: &str) {
+/// Asserts that the run fails with status 2 and this line, and writes nothing to standard output.
+pub fn assert_fails(words: &[&str], input: &[u8], line: &str) {
     let done = table(words, input);
     assert_eq!(done.errors, format!("table: {line}\n"), "table {words:?}");
-    assert_eq!((done.status, done.output.len()), (status, 0), "table {words:?}");
+    assert_eq!((done.status, done.output.len()), (2, 0), "table {words:?}");
 }

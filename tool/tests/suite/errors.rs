@@ -2,13 +2,15 @@
 use crate::command::{assert_fails, table};
 use crate::samples::path;
 
+const NAME: &str = "a name of letters, digits, '_', '.' and '-' that does not begin with a digit or '-'";
+
 /// The text, the line of its error, and the message.
 type Case<'a> = (&'a str, usize, &'a str);
 
 fn check(cases: &[Case]) {
     for (text, line, message) in cases {
         for command in ["make", "picture"] {
-            assert_fails(&[command], text.as_bytes(), 2, &format!("standard input line {line}: {message}"));
+            assert_fails(&[command, "-"], text.as_bytes(), &format!("standard input line {line}: {message}"));
         }
     }
 }
@@ -26,7 +28,6 @@ fn lines_of_neither_kind() {
 
 #[test]
 fn sets_lines() {
-    let name = "a name of letters, digits, '_', '.' and '-' that does not begin with a digit";
     check(&[
         ("sets\nstate 0 -> 0", 1, "found nothing after \"sets\", expected a count or names"),
         ("sets 5\nstate 0 -> 0", 1, "found the count \"5\", expected at most 4 sets"),
@@ -35,9 +36,11 @@ fn sets_lines() {
         ("sets 1\nstate 0 -> 0\nsets 1", 3, "found a second \"sets\" line, expected one"),
         ("state 0 -> 0\nsets 1", 2, "found \"sets\" after a state, expected it before the states"),
         ("sets a b a\nstate 0 -> 0", 1, "found the set name \"a\" twice, expected each name once"),
-        ("sets 2 a\nstate 0 -> 0", 1, &format!("found the set name \"2\", expected {name}")),
-        ("sets 2a\nstate 0 -> 0", 1, &format!("found the set name \"2a\", expected {name}")),
-        ("sets a,b\nstate 0 -> 0", 1, &format!("found the set name \"a,b\", expected {name}")),
+        ("sets 2 a\nstate 0 -> 0", 1, &format!("found the set name \"2\", expected {NAME}")),
+        ("sets 2a\nstate 0 -> 0", 1, &format!("found the set name \"2a\", expected {NAME}")),
+        ("sets a,b\nstate 0 -> 0", 1, &format!("found the set name \"a,b\", expected {NAME}")),
+        ("sets -1\nstate 0 -> 0", 1, &format!("found the set name \"-1\", expected {NAME}")),
+        ("sets a -\nstate 0 -> 0", 1, &format!("found the set name \"-\", expected {NAME}")),
         (
             "sets a goal\nstate 0 -> 0",
             1,
@@ -48,7 +51,6 @@ fn sets_lines() {
 
 #[test]
 fn states() {
-    let name = "a name of letters, digits, '_', '.' and '-' that does not begin with a digit";
     let order = "for states are numbered in the order of their lines";
     check(&[
         ("state", 1, "found no word after \"state\", expected the state's number or name"),
@@ -62,7 +64,13 @@ fn states() {
         (
             "state 0->0",
             1,
-            &format!("found the state name \"0->0\", expected the number 0 or {name}"),
+            &format!("found the state name \"0->0\", expected the number 0 or {NAME}"),
+        ),
+        ("state - -> 0", 1, &format!("found the state name \"-\", expected the number 0 or {NAME}")),
+        (
+            "state -1 -> 0",
+            1,
+            &format!("found the state name \"-1\", expected the number 0 or {NAME}"),
         ),
         (
             "state start -> 0",
@@ -88,7 +96,7 @@ fn marks() {
         (
             "state a->a",
             1,
-            "found the state name \"a->a\", expected the number 0 or a name of letters, digits, '_', '.' and '-' that does not begin with a digit",
+            &format!("found the state name \"a->a\", expected the number 0 or {NAME}"),
         ),
         ("state 0 gaol -> 0", 1, "found \"gaol\", expected \"start\", \"goal\", \"in\" or \"->\""),
         ("state 0 start goal start -> 0", 1, "found \"start\" twice, expected it once"),
@@ -154,7 +162,7 @@ fn successors() {
 #[test]
 fn too_many_states() {
     let lines = |count: usize| (0..count).map(|state| format!("state {state} -> 0\n")).collect::<String>();
-    assert_eq!(table(&["make"], lines(64).as_bytes()).status, 0);
+    assert_eq!(table(&["make", "-"], lines(64).as_bytes()).status, 0);
     check(&[(&lines(65), 65, "found 65 states, expected at most 64")]);
 }
 
@@ -166,7 +174,7 @@ fn too_many_edges() {
             .map(|state| format!("state {state} ->{row}{}\n", if state == 63 { last } else { "" }))
             .collect::<String>()
     };
-    assert_eq!(table(&["make"], lines("").as_bytes()).status, 0);
+    assert_eq!(table(&["make", "-"], lines("").as_bytes()).status, 0);
     check(&[(&lines(" 16"), 64, "found 1025 edges up to this line, expected at most 1024")]);
 }
 
@@ -174,24 +182,27 @@ fn too_many_edges() {
 #[test]
 fn what_is_no_text() {
     let zero = "found a zero byte, expected text (is this a table file?)";
-    assert_fails(&["make"], b"state 0 -> 0\n# \0\n", 2, &format!("standard input line 2: {zero}"));
+    assert_fails(&["make", "-"], b"state 0 -> 0\n# \0\n", &format!("standard input line 2: {zero}"));
     let file = path("a", "table");
-    assert_fails(&["make", &file], b"", 2, &format!("{file} line 1: {zero}"));
-    check_bytes(b"state 0 -> 0\n\xff", 2, "found bytes that are not UTF-8, expected text");
+    assert_fails(&["make", &file], b"", &format!("{file} line 1: {zero}"));
+    check_bytes(
+        b"state 0 -> 0\n\xff",
+        2,
+        "found bytes that are not UTF-8, expected text (a table file has a zero byte, and this has none)",
+    );
 }
 
 fn check_bytes(bytes: &[u8], line: usize, message: &str) {
     for command in ["make", "picture"] {
-        assert_fails(&[command], bytes, 2, &format!("standard input line {line}: {message}"));
+        assert_fails(&[command, "-"], bytes, &format!("standard input line {line}: {message}"));
     }
 }
 
 #[test]
 fn a_control_character_does_not_break_the_line() {
     assert_fails(
-        &["make"],
+        &["make", "-"],
         b"a\x1bb",
-        2,
         "standard input line 1: found \"a\\u{1b}b\", expected \"sets\" or \"state\"",
     );
 }

@@ -36,7 +36,7 @@ fn the_text_makes_the_table_file() {
     for name in names() {
         assert_eq!(output_of(&["make", &path(&name, "txt")], b""), bytes(&name, "table"), "{name}");
         assert_eq!(
-            output_of(&["make"], &bytes(&name, "txt")),
+            output_of(&["make", "-"], &bytes(&name, "txt")),
             bytes(&name, "table"),
             "{name} on standard input"
         );
@@ -48,7 +48,7 @@ fn the_table_file_shows_the_text() {
     for name in names() {
         let shown = text_of(&["show", &path(&name, "table")], b"");
         assert_eq!(shown, without_names(&text(&name, "txt")), "{name}");
-        assert_eq!(shown, text_of(&["show"], &bytes(&name, "table")), "{name} on standard input");
+        assert_eq!(shown, text_of(&["show", "-"], &bytes(&name, "table")), "{name} on standard input");
     }
 }
 
@@ -100,6 +100,15 @@ fn without_names(text: &str) -> String {
     plain.text()
 }
 
+/// Some editors put a mark before a text.
+#[test]
+fn a_byte_order_mark_is_skipped() {
+    for name in names() {
+        let text = [b"\xef\xbb\xbf", bytes(&name, "txt").as_slice()].concat();
+        assert_eq!(output_of(&["make", "-"], &text), bytes(&name, "table"), "{name}");
+    }
+}
+
 /// The block of the README that shows the text form is one, by its first word.
 #[test]
 fn the_text_form_of_the_readme_is_right() {
@@ -109,7 +118,7 @@ fn the_text_form_of_the_readme_is_right() {
         .find(|block| block.starts_with("sets "))
         .expect("the block is there");
     let shown = "sets 2\nstate 0 start -> 0 1\nstate 1 in 0 -> 1 2\nstate 2 goal in 0 1 -> 0\n";
-    assert_eq!(text_of(&["show"], &output_of(&["make"], block.as_bytes())), shown);
+    assert_eq!(text_of(&["show", "-"], &output_of(&["make", "-"], block.as_bytes())), shown);
 }
 
 #[test]

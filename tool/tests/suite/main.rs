@@ -10,4 +10,6 @@ mod refusals;
 mod round_trip;
 mod samples;
 mod stories;
+mod streams;
 mod usage;
+mod warnings;

@@ -24,7 +24,7 @@ fn pictures_of_the_examples() {
         let of_text = text_of(&["picture", &path(&name, "txt")], b"");
         check(&of_file, &table);
         check(&of_text, &table);
-        assert_eq!(text_of(&["picture"], &table), of_file, "{name} on standard input");
+        assert_eq!(text_of(&["picture", "-"], &table), of_file, "{name} on standard input");
     }
 }
 
@@ -52,7 +52,7 @@ fn an_edge_taken_twice_bears_both_pairs_of_places() {
         rows: vec![vec![1], vec![2, 3], vec![0], vec![0]],
     }
     .bytes();
-    let text = text_of(&["picture"], &table);
+    let text = text_of(&["picture", "-"], &table);
     check(&text, &table);
     let graph = read(&text).unwrap();
     let edge = graph.edges.iter().find(|(from, to, _)| from == "0" && to == "1").unwrap();

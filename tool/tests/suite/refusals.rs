@@ -1,4 +1,4 @@
-//! Table files that the library refuses: number, place and words, status 1. Reads docs/RULES.md, "Refusal list".
+//! Table files that the library refuses: number, place and words, status 2. Reads docs/RULES.md, "Refusal list".
 use crate::command::assert_fails;
 use crate::samples::bytes;
 
@@ -11,7 +11,7 @@ fn table_a_with(offset: usize, number: u32) -> Vec<u8> {
 
 fn assert_refused(table: &[u8], line: &str) {
     for command in ["show", "picture"] {
-        assert_fails(&[command], table, 1, &format!("standard input: {line}"));
+        assert_fails(&[command, "-"], table, &format!("standard input: {line}"));
     }
 }
 
@@ -51,6 +51,6 @@ fn an_empty_row() {
 
 #[test]
 fn show_of_a_text_is_refused() {
-    assert_fails(&["show"], &bytes("j", "txt"), 1, "standard input: refused 2 0: kind is not 1");
-    assert_fails(&["show"], b"state 0 -> 0\n", 1, "standard input: refused 1 0: fewer than 28 bytes");
+    assert_fails(&["show", "-"], &bytes("j", "txt"), "standard input: refused 2 0: kind is not 1");
+    assert_fails(&["show", "-"], b"state 0 -> 0\n", "standard input: refused 1 0: fewer than 28 bytes");
 }

@@ -37,9 +37,9 @@ fn random_tables_through_the_program() {
     let mut random = Random::new(3);
     for _ in 0..200 {
         let table = random.table();
-        let text = text_of(&["show"], &table.bytes());
+        let text = text_of(&["show", "-"], &table.bytes());
         assert_eq!(text, table.text());
-        assert_eq!(output_of(&["make"], text.as_bytes()), table.bytes());
+        assert_eq!(output_of(&["make", "-"], text.as_bytes()), table.bytes());
     }
 }
 
