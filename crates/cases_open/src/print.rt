@@ -47,7 +47,7 @@ fn sheet(s: Sheet) {
 // What opening the first `len` bytes answers.
 fn open_first(bytes: &[u8], len: usize) {
     if len <= bytes.len() {
-        answer(table::open(&bytes[..len]));
+        answer(opening::open(&bytes[..len]));
     }
 }
 

@@ -1,4 +1,4 @@
--- What the two exported jobs with lent buffers say, and that the statement of each of the five settles number, words and buffers.
+-- What the five exported jobs say, and that each statement settles number, words and buffers.
 -- docs/RULES.md, "Strength of the statements". Assumes nothing.
 use mathlib.Core.Path.{_≡_, sym, ap, _∙_}
 use mathlib.Core.Bool.{Bool}
@@ -17,6 +17,16 @@ use Rattle.translation.specs.Laws.{translate-unique}
 use Rattle.translation.specs.declared.Answer.{Answer as Translated}
 use Rattle.lasso.specs.Words.{openNumber, openWords, quoteNumber, quoteWords, stepNumber, stepWords, searchNumber, searchWords, translateNumber, translateWords}
 
+-- the number and the words are those of opening's answer, of the quote, of the step's answer
+abbrev pub OpenSaid : List ℕ → ℕ → List ℕ → Type 0
+OpenSaid b number words = (number ≡ openNumber (openOf b)) × (words ≡ openWords (openOf b))
+
+abbrev pub QuoteSaid : List ℕ → ℕ → List ℕ → Type 0
+QuoteSaid b number words = (number ≡ quoteNumber (quoteOf b)) × (words ≡ quoteWords (quoteOf b))
+
+abbrev pub StepSaid : List ℕ → Record → ℕ → Bool → ℕ → List ℕ → Type 0
+StepSaid b r s′ wish number words = (number ≡ stepNumber (steppedOf b r s′ wish)) × (words ≡ stepWords (steppedOf b r s′ wish))
+
 -- the number and the words are those of an answer that the search may give
 abbrev pub SearchSaid : List ℕ → List ℕ → List ℕ → ℕ → List ℕ → List ℕ → List ℕ → Type 0
 SearchSaid b work report number words work′ report′ =
@@ -29,17 +39,14 @@ TranslateSaid b out number words out′ =
 
 -- ---- two results that meet a statement are equal
 
-pub open-said-unique : (b : List ℕ) (x x′ : ℕ) (a a′ : List ℕ) → (x ≡ openNumber (openOf b)) × (a ≡ openWords (openOf b))
-    → (x′ ≡ openNumber (openOf b)) × (a′ ≡ openWords (openOf b)) → (x ≡ x′) × (a ≡ a′)
+pub open-said-unique : (b : List ℕ) (x x′ : ℕ) (a a′ : List ℕ) → OpenSaid b x a → OpenSaid b x′ a′ → (x ≡ x′) × (a ≡ a′)
 open-said-unique b x x′ a a′ = both-settled
 
-pub quote-said-unique : (b : List ℕ) (x x′ : ℕ) (a a′ : List ℕ) → (x ≡ quoteNumber (quoteOf b)) × (a ≡ quoteWords (quoteOf b))
-    → (x′ ≡ quoteNumber (quoteOf b)) × (a′ ≡ quoteWords (quoteOf b)) → (x ≡ x′) × (a ≡ a′)
+pub quote-said-unique : (b : List ℕ) (x x′ : ℕ) (a a′ : List ℕ) → QuoteSaid b x a → QuoteSaid b x′ a′ → (x ≡ x′) × (a ≡ a′)
 quote-said-unique b x x′ a a′ = both-settled
 
 pub step-said-unique : (b : List ℕ) (r : Record) (s′ : ℕ) (wish : Bool) (x x′ : ℕ) (a a′ : List ℕ)
-    → (x ≡ stepNumber (steppedOf b r s′ wish)) × (a ≡ stepWords (steppedOf b r s′ wish))
-    → (x′ ≡ stepNumber (steppedOf b r s′ wish)) × (a′ ≡ stepWords (steppedOf b r s′ wish)) → (x ≡ x′) × (a ≡ a′)
+    → StepSaid b r s′ wish x a → StepSaid b r s′ wish x′ a′ → (x ≡ x′) × (a ≡ a′)
 step-said-unique b r s′ wish x x′ a a′ = both-settled
 
 pub search-said-unique : (b work report : List ℕ) (x x′ : ℕ) (a a′ w w′ r r′ : List ℕ)

@@ -2,11 +2,8 @@
 // out: it returns 0, or the number of the refusal, and fills the words of the answer, the first of which is the refusal's place. What the words are
 // stands in specs/Words.antt, and for C in bindings/lasso.h.
 ghost use mathlib.Core.Path.{_≡_};
-ghost use Rattle.table.specs.Open.{openOf};
-ghost use Rattle.quote.specs.Quote.{quoteOf};
-ghost use Rattle.stepping.specs.Step.{steppedOf};
-ghost use Rattle.lasso.specs.Words.{openNumber, openPlace, openWords, quoteNumber, quoteWords, stepNumber, stepWords};
-ghost use Rattle.lasso.specs.Says.{SearchSaid, TranslateSaid};
+ghost use Rattle.lasso.specs.Words.{openNumber, openPlace};
+ghost use Rattle.lasso.specs.Says.{OpenSaid, QuoteSaid, SearchSaid, TranslateSaid, StepSaid};
 use recorder::Record;
 use search::Answer as Searched;
 use stepping::Stepped;
@@ -36,12 +33,11 @@ fn place_of(opened: Opened) -> usize
 // Opens the table.
 #[no_mangle]
 pub extern "C" fn lasso_open(table: &[u8], answer: &mut [usize; 4]) -> u32
-    ensures { λ r. ⌜ r ≡ openNumber (openOf (now (table .entry))) ⌝ }
-    ensures { λ _. ⌜ now (answer .exit) ≡ openWords (openOf (now (table .entry))) ⌝ }
+    ensures { λ r. ⌜ OpenSaid (now (table .entry)) r (now (answer .exit)) ⌝ }
 {
-    let opened = table::open(table);
+    let opened = opening::open(table);
     let Opened::Accepted(t) = opened else {
-        let why = table::why(opened);
+        let why = opening::why(opened);
         *answer = [why.place(), 0, 0, 0];
         return why.number();
     };
@@ -52,8 +48,7 @@ pub extern "C" fn lasso_open(table: &[u8], answer: &mut [usize; 4]) -> u32
 // Prices the table.
 #[no_mangle]
 pub extern "C" fn lasso_quote(table: &[u8], answer: &mut [usize; 9]) -> u32
-    ensures { λ r. ⌜ r ≡ quoteNumber (quoteOf (now (table .entry))) ⌝ }
-    ensures { λ _. ⌜ now (answer .exit) ≡ quoteWords (quoteOf (now (table .entry))) ⌝ }
+    ensures { λ r. ⌜ QuoteSaid (now (table .entry)) r (now (answer .exit)) ⌝ }
 {
     let quoted = quote::quote(table);
     let opened = quoted.answer;
@@ -128,8 +123,7 @@ pub extern "C" fn lasso_step(
     wish: bool,
     answer: &mut [usize; 5],
 ) -> u32
-    ensures { λ r. ⌜ r ≡ stepNumber (steppedOf (now (table .entry)) (record { s = s; t = t; live = live; v = v }) next wish) ⌝ }
-    ensures { λ _. ⌜ now (answer .exit) ≡ stepWords (steppedOf (now (table .entry)) (record { s = s; t = t; live = live; v = v }) next wish) ⌝ }
+    ensures { λ r. ⌜ StepSaid (now (table .entry)) (record { s = s; t = t; live = live; v = v }) next wish r (now (answer .exit)) ⌝ }
 {
     match stepping::step(table, Record { s, t, live, v }, next, wish) {
         Stepped::Moved(r) => {

@@ -20,7 +20,7 @@ pub fn verdict(
     let quoted = quote::quote(table);
     let opened = quoted.answer;
     let Opened::Accepted(_) = opened else {
-        return lines::refused_line(out, 0, table::why(opened));
+        return lines::refused_line(out, 0, opening::why(opened));
     };
     let sheet = quoted.sheet;
     let end = lines::sheet_lines(out, sheet);

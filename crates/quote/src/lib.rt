@@ -58,7 +58,7 @@ fn sheet_of(bytes: &[u8], t: Table) -> Sheet
 pub fn quote(bytes: &[u8]) -> Quoted
     ensures { λ r. ⌜ r ≡ quoteOf (now (bytes .entry)) ⌝ }
 {
-    let answer = table::open(bytes);
+    let answer = opening::open(bytes);
     let Opened::Accepted(t) = answer else {
         return Quoted {
             answer,

@@ -7,7 +7,8 @@ use Rattle.recorder.specs.Block.{Block}
 use Rattle.recorder.specs.Lasso.{Lasso, state}
 use Rattle.recorder.specs.Recorder.{Choice, none, place}
 
--- of a run s0..s(k+1): a state sl was recorded, s(k+1) is that state again, and s0..sk, looped at l, is a lasso
+-- of the k + 2 states s0..s(k+1) of a run, a length that its users ask for: a state sl was recorded, s(k+1) is that state again, and s0..sk, looped at
+-- l, is a lasso
 abbrev pub IsLasso : Block → List ℕ → ℕ → Choice → Type 0
 IsLasso B ss k none = ⊥
 IsLasso B ss k (place l) = (state ss (suc k) ≡ state ss l) × Lasso B (take (suc k) ss) l

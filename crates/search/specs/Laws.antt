@@ -11,7 +11,8 @@ use lib.ListN.{length, drop}
 use borrow.Author.Tests.{lt-ltb, le-ltb}
 use Rattle.recorder.specs.Block.{Block, Sound}
 use Rattle.recorder.specs.Least.{least-of-block}
-use Rattle.table.specs.Open.{given, firstGiven, openOf}
+use Rattle.table.specs.Open.{openOf}
+use Rattle.table.specs.Given.{given, firstGiven}
 use Rattle.table.specs.InOrder.{end, ByTheList, positionAfter, line, by-the-list}
 use Rattle.table.specs.BlockOf.{blockOf}
 use Rattle.table.specs.WellFormed.{well-formed}

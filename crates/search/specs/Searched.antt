@@ -8,7 +8,8 @@ use lib.Dec.{ltb}
 use lib.ListN.{length, drop}
 use Rattle.recorder.specs.Block.{Block}
 use Rattle.recorder.specs.Lasso.{LeastLasso, NoLasso}
-use Rattle.table.specs.Open.{given, refusalFor, openOf}
+use Rattle.table.specs.Open.{refusalFor, openOf}
+use Rattle.table.specs.Given.{given}
 use Rattle.table.specs.BlockOf.{blockOf}
 use Rattle.table.specs.declared.refusal.Refusal.{Refusal}
 use Rattle.table.specs.declared.refusal.Refusal.the-variants.{ShortWorkspace, ShortReport}

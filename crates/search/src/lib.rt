@@ -45,9 +45,9 @@ fn find(bytes: &[u8], t: Table, work: &mut [u32], report: &mut [u32], slots: usi
 pub fn search(bytes: &[u8], work: &mut [u32], report: &mut [u32]) -> Answer
     ensures { λ a. ⌜ SearchSays (now (bytes .entry)) (now (work .entry)) (now (report .entry)) a (now (work .exit)) (now (report .exit)) ⌝ }
 {
-    let answer = table::open(bytes);
+    let answer = opening::open(bytes);
     let Opened::Accepted(t) = answer else {
-        return Answer::Refused(table::why(answer));
+        return Answer::Refused(opening::why(answer));
     };
     let slots = recorder::slot_count(t.states, t.sets);
     if work.len() < 2 * slots {

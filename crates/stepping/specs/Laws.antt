@@ -12,7 +12,7 @@ use Rattle.recorder.specs.Recorder.{stepOf}
 use Rattle.recorder.specs.Slots.{slotCount, slotOf, InRange}
 use Rattle.recorder.specs.Successors.{step-below}
 use Rattle.recorder.specs.declared.Record.{Record}
-use Rattle.table.specs.Open.{openOf, refusalFor}
+use Rattle.table.specs.Open.{openOf}
 use Rattle.table.specs.InOrder.{end, ByTheList, positionAfter, line, by-the-list}
 use Rattle.table.specs.BlockOf.{blockOf}
 use Rattle.table.specs.Facts.{facts}
@@ -23,7 +23,7 @@ use Rattle.table.specs.declared.Opened.{Opened}
 use Rattle.table.specs.declared.Opened.the-variants.{Accepted, Refused as TableRefused}
 use Rattle.table.specs.declared.refusal.Refusal.{Refusal}
 use Rattle.table.specs.declared.refusal.Refusal.the-variants.{WrongMark, WrongRecord, NoEdge}
-use Rattle.stepping.specs.Step.{recordFits, stepLines, steppedOf}
+use Rattle.stepping.specs.Step.{recordFits, stepLines, refusalOf, steppedOf}
 use Rattle.stepping.specs.declared.Stepped.{Stepped}
 use Rattle.stepping.specs.declared.Stepped.the-variants.{Moved, Refused}
 
@@ -46,21 +46,21 @@ module _ (b : List ℕ) (r : Record) (s′ : ℕ) (wish : Bool) where
   -- ---- the answer, line by line
 
   pub table-refused : (why : Refusal) → openOf b ≡ TableRefused why → Refused why ≡ steppedOf b r s′ wish
-  unfolding steppedOf
+  unfolding steppedOf refusalOf
   table-refused why e = rw e
 
   module _ (t : Table) (o : openOf b ≡ Accepted t) where
     pub record-refused : recordFits (t .states) (t .sets) r s′ ≡ false → Refused WrongRecord ≡ steppedOf b r s′ wish
-    unfolding steppedOf stepLines
+    unfolding steppedOf refusalOf stepLines
     record-refused f = simp (o, block-counts b t o .0, block-counts b t o .1, f)
 
     pub no-edge : recordFits (t .states) (t .sets) r s′ ≡ true → blockOf b .edge (r .s) s′ ≡ false → Refused NoEdge ≡ steppedOf b r s′ wish
-    unfolding steppedOf stepLines
+    unfolding steppedOf refusalOf stepLines
     no-edge f e = simp (o, block-counts b t o .0, block-counts b t o .1, f, e)
 
     pub moves : recordFits (t .states) (t .sets) r s′ ≡ true → blockOf b .edge (r .s) s′ ≡ true
         → Moved (stepOf liveFlag (blockOf b) r s′ wish) ≡ steppedOf b r s′ wish
-    unfolding steppedOf stepLines
+    unfolding steppedOf refusalOf stepLines
     moves f e = simp (o, block-counts b t o .0, block-counts b t o .1, f, e)
 
   -- where a record moved: the table is accepted, no line is given, and the record is the step of the rules
@@ -89,8 +89,8 @@ module _ (b : List ℕ) (r : Record) (s′ : ℕ) (wish : Bool) where
   -- ---- what a reader may count on
 
   -- its lines stand in the list's order, after the table's, and the first that is given is the refusal
-  pub step-by-the-list : ByTheList b (stepLines (blockOf b) r s′) (refusalFor (openOf b) (stepLines (blockOf b) r s′))
-  unfolding stepLines
+  pub step-by-the-list : ByTheList b (stepLines (blockOf b) r s′) (refusalOf b r s′)
+  unfolding refusalOf stepLines
   step-by-the-list =
       let last = line (positionAfter WrongRecord) (not (blockOf b .edge (r .s) s′)) NoEdge [] (omega arith) end in
       by-the-list b _ (line (positionAfter (WrongMark 0)) (not (recordFits (blockOf b .n) (blockOf b .m) r s′)) WrongRecord _ (omega arith) last)

@@ -9,7 +9,8 @@ use Rattle.recorder.specs.Block.{Block}
 use Rattle.recorder.specs.Flag.{liveFlag}
 use Rattle.recorder.specs.Recorder.{stepOf}
 use Rattle.recorder.specs.declared.Record.{Record}
-use Rattle.table.specs.Open.{given, refusalFor, openOf}
+use Rattle.table.specs.Open.{refusalFor, openOf}
+use Rattle.table.specs.Given.{given}
 use Rattle.table.specs.BlockOf.{blockOf}
 use Rattle.table.specs.declared.refusal.Refusal.{Refusal}
 use Rattle.table.specs.declared.refusal.Refusal.the-variants.{WrongRecord, NoEdge}
@@ -24,6 +25,10 @@ recordFits n m r s′ = ltb (r .s) n && ltb s′ n && leb (r .t) n && ltb (r .v)
 unfoldable pub stepLines : Block → Record → ℕ → List (Option Refusal)
 stepLines B r s′ = given (not (recordFits (B .n) (B .m) r s′)) WrongRecord ∷ given (not (B .edge (r .s) s′)) NoEdge ∷ []
 
+-- what moving the record r to s′ over the bytes b refuses
+unfoldable pub refusalOf : List ℕ → Record → ℕ → Option Refusal
+refusalOf b r s′ = refusalFor (openOf b) (stepLines (blockOf b) r s′)
+
 -- the refusal that is given, or the record r′ where none is
 abbrev pub movedTo : Record → Option Refusal → Stepped
 movedTo r′ none = Moved r′
@@ -31,4 +36,4 @@ movedTo r′ (some why) = Refused why
 
 -- what moving the record r to s′ over the bytes b answers
 unfoldable pub steppedOf : List ℕ → Record → ℕ → Bool → Stepped
-steppedOf b r s′ wish = movedTo (stepOf liveFlag (blockOf b) r s′ wish) (refusalFor (openOf b) (stepLines (blockOf b) r s′))
+steppedOf b r s′ wish = movedTo (stepOf liveFlag (blockOf b) r s′ wish) (refusalOf b r s′)

@@ -24,9 +24,9 @@ fn fits(n: usize, m: usize, r: Record, next: usize) -> bool
 pub fn step(bytes: &[u8], r: Record, next: usize, wish: bool) -> Stepped
     ensures { λ a. ⌜ a ≡ steppedOf (now (bytes .entry)) r next wish ⌝ }
 {
-    let answer = table::open(bytes);
+    let answer = opening::open(bytes);
     let Opened::Accepted(t) = answer else {
-        return Stepped::Refused(table::why(answer));
+        return Stepped::Refused(opening::why(answer));
     };
     let n = t.states;
     let s = r.s;

@@ -11,9 +11,10 @@ use native.Mathlib.Omega.{arith}
 use lib.Dec.{eqb, ltb}
 use lib.ListN.{length}
 use Rattle.table.specs.First.{firstIn}
+use Rattle.table.specs.Given.{given, givenAt, firstGiven}
 use Rattle.table.specs.Layout.{kindOf, statesOf, edgesOf, setsOf}
 use Rattle.table.specs.Refusals.{numberOf}
-use Rattle.table.specs.Open.{countsFit, layoutFits, rowStartWrong, targetWrong, rowEmpty, markWrong, given, givenAt, firstGiven, refusalFor, answerOf, linesOf, openOf}
+use Rattle.table.specs.Open.{countsFit, layoutFits, rowStartWrong, targetWrong, rowEmpty, markWrong, countLines, rowLines, contentLines, refusalFor, answerOf, linesOf, openedBy, openOf}
 use Rattle.table.specs.declared.refusal.Refusal.{Refusal}
 use Rattle.table.specs.declared.refusal.Refusal.the-variants.{TooShort, WrongKind, WrongCount, WrongLayout, WrongRowStart, WrongTarget, EmptyRow, WrongMark, ShortWorkspace, ShortReport, ShortOutput, WrongRecord, NoEdge}
 
@@ -47,11 +48,11 @@ abbrev pub GivenIn : Refusal → List (Option Refusal) → Type 0
 GivenIn r [] = ⊥
 GivenIn r (o ∷ ls) = (o ≡ some r) ⊎ GivenIn r ls
 
--- the lines stand in the list's order
+-- the lines that are given stand in the list's order; said of every input, so two lines that can both be given can't be exchanged
 abbrev pub InOrder : List (Option Refusal) → Type 0
 InOrder ls = InOrderFrom 0 ls
 
--- the refusal of a job whose own lines come after the table's: all stand in the list's order, and the first that is given is the refusal
+-- the refusal of a job whose own lines come after the table's: those that are given stand in the list's order, and the first of them is the refusal
 pub record ByTheList (b : List ℕ) (ls : List (Option Refusal)) (why : Option Refusal) : Type 0 where
   pub in-order : InOrder (linesOf b ++ ls)
   pub is-first : why ≡ firstGiven (linesOf b ++ ls)
@@ -113,7 +114,7 @@ line-at p (some i) r ls e h k = let c : p ≤ positionOf (r i) = rw (e i) h in l
 -- ---- the table's lines, and after them a job's own
 
 lines-in-order : (b : List ℕ) (ls : List (Option Refusal)) → InOrderFrom (positionAfter (WrongMark 0)) ls → InOrder (linesOf b ++ ls)
-unfolding linesOf
+unfolding linesOf countLines rowLines contentLines
 lines-in-order b ls k =
     line 0 (ltb (length b) 28) TooShort _ (omega arith)
     (line (positionAfter TooShort) (not (eqb (kindOf b) 1)) WrongKind _ (omega arith)
@@ -126,7 +127,7 @@ lines-in-order b ls k =
 
 -- what a job refuses is the first line that is given, of the table's lines and then its own
 down-the-list : (b : List ℕ) (ls : List (Option Refusal)) → refusalFor (openOf b) ls ≡ firstGiven (linesOf b ++ ls)
-unfolding openOf
+unfolding openOf openedBy
 down-the-list b ls = go (linesOf b)
   where
     go : (rs : List (Option Refusal)) → refusalFor (answerOf b (firstGiven rs)) ls ≡ firstGiven (rs ++ ls)

@@ -4,15 +4,12 @@ use mathlib.Core.Path.{_≡_}
 use mathlib.Core.Bool.{true}
 use mathlib.Core.Logic.{_↔_, Iff·rfl}
 use mathlib.Core.List.{List}
-use mathlib.Core.Option.{Option, none, some}
 use Prim.Native.Nat.{ℕ, _≤_}
 use lib.ListN.{length}
 use Rattle.table.specs.Layout.{statesOf, edgesOf, setsOf, rowsOffset, targetsOffset, marksOffset, rowsAt, targetsAt, marksAt, lengthOf, tableOf}
 use Rattle.table.specs.Open.{countsFit, layoutFits}
 use Rattle.table.specs.Facts.{facts}
 use Rattle.table.specs.declared.Table.{Table}
-use Rattle.table.specs.declared.faults.Found.{Found}
-use Rattle.table.specs.declared.faults.Found.the-variants.{At, Nothing}
 
 pub record LaidOut (b : List ℕ) (t : Table) : Type 0 where
   pub states-are : t .states ≡ statesOf b
@@ -25,14 +22,9 @@ pub record LaidOut (b : List ℕ) (t : Table) : Type 0 where
   pub sets-to : t .sets ≤ 4
   pub size : length b ≡ lengthOf (t .states) (t .edges)
 
--- so the table is the one that the header counts
-pub table-is : (b : List ℕ) (t : Table) → LaidOut b t → t ≡ tableOf b
-table-is b t l = λ i. record { states = l .states-are i; edges = l .edges-are i; sets = l .sets-are i }
-
--- a first index, as the code answers it
-abbrev pub foundOf : Option ℕ → Found
-foundOf none = Nothing
-foundOf (some i) = At i
+-- a table with these counts is the one that the header counts
+pub table-is : (b : List ℕ) (t : Table) → t .states ≡ statesOf b → t .edges ≡ edgesOf b → t .sets ≡ setsOf b → t ≡ tableOf b
+table-is b t s e m = λ i. record { states = s i; edges = e i; sets = m i }
 
 -- ---- what lines 3 and 4 say where they are not given, nested as the tests are
 

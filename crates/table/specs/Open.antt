@@ -1,12 +1,13 @@
 -- Which tables are accepted, and which refusal every other gets. docs/RULES.md, "The table file" and lines 1 to 8 of "Refusal list".
 -- Definitions only. Assumes nothing.
 use mathlib.Core.Bool.{Bool, true, false, not, _&&_, _||_}
-use mathlib.Core.List.{List, [], _∷_}
+use mathlib.Core.List.{List, [], _∷_, _++_}
 use mathlib.Core.Option.{Option, none, some}
 use Prim.Native.Nat.{ℕ, suc, _+_, _-_, _^_}
 use lib.Dec.{eqb, leb, ltb}
 use lib.ListN.{length}
 use Rattle.table.specs.First.{firstIn, isSome}
+use Rattle.table.specs.Given.{given, givenAt, firstGiven}
 use Rattle.table.specs.Layout.{kindOf, statesOf, edgesOf, setsOf, rowsOffset, targetsOffset, marksOffset, rowsAt, targetsAt, marksAt, lengthOf, tableOf, rowStart, target, mark}
 use Rattle.table.specs.declared.refusal.Refusal.{Refusal}
 use Rattle.table.specs.declared.refusal.Refusal.the-variants.{TooShort, WrongKind, WrongCount, WrongLayout, WrongRowStart, WrongTarget, EmptyRow, WrongMark}
@@ -53,49 +54,52 @@ markWrong b s = leb (2 ^ (2 + setsOf b)) (mark b s)
 
 -- ---- the list
 
--- a line of the list: its refusal, where it is given
-abbrev pub given : Bool → Refusal → Option Refusal
-given true r = some r
-given false r = none
-
--- a line whose place is the first such index
-abbrev pub givenAt : Option ℕ → (ℕ → Refusal) → Option Refusal
-givenAt none r = none
-givenAt (some i) r = some (r i)
-
--- lines 1 to 8, in the list's order
-unfoldable pub linesOf : List ℕ → List (Option Refusal)
-linesOf b =
+-- lines 1 to 3: the header and its counts
+unfoldable pub countLines : List ℕ → List (Option Refusal)
+countLines b =
     given (ltb (length b) 28) TooShort
     ∷ given (not (eqb (kindOf b) 1)) WrongKind
     ∷ given (not (countsFit (statesOf b) (edgesOf b) (setsOf b))) WrongCount
-    ∷ given (not (layoutFits b)) WrongLayout
+    ∷ []
+
+-- lines 4 and 5: layout and row starts
+unfoldable pub rowLines : List ℕ → List (Option Refusal)
+rowLines b =
+    given (not (layoutFits b)) WrongLayout
     ∷ givenAt (firstIn 0 (statesOf b + 1) (rowStartWrong b)) WrongRowStart
-    ∷ givenAt (firstIn 0 (edgesOf b) (targetWrong b)) WrongTarget
+    ∷ []
+
+-- lines 6 to 8: targets, empty rows and marks
+unfoldable pub contentLines : List ℕ → List (Option Refusal)
+contentLines b =
+    givenAt (firstIn 0 (edgesOf b) (targetWrong b)) WrongTarget
     ∷ givenAt (firstIn 0 (statesOf b) (rowEmpty b)) EmptyRow
     ∷ givenAt (firstIn 0 (statesOf b) (markWrong b)) WrongMark
     ∷ []
 
--- the first line that is given
-abbrev pub firstGiven : List (Option Refusal) → Option Refusal
-firstGiven [] = none
-firstGiven (none ∷ rs) = firstGiven rs
-firstGiven (some r ∷ rs) = some r
+-- lines 1 to 8, in the list's order
+unfoldable pub linesOf : List ℕ → List (Option Refusal)
+linesOf b = (countLines b ++ rowLines b) ++ contentLines b
 
 -- what a job over the bytes refuses: a table that is not accepted gets its refusal, any other the first of the job's own lines that is given, if any
 abbrev pub refusalFor : Opened → List (Option Refusal) → Option Refusal
 refusalFor (Refused why) lines = some why
 refusalFor (Accepted t) lines = firstGiven lines
 
+-- the answer of opening: the refusal, or where there is none the table
 abbrev pub answerOf : List ℕ → Option Refusal → Opened
 answerOf b none = Accepted (tableOf b)
 answerOf b (some r) = Refused r
 
+-- what the bytes are answered by these lines
+unfoldable pub openedBy : List ℕ → List (Option Refusal) → Opened
+openedBy b lines = answerOf b (firstGiven lines)
+
 -- what opening the bytes answers
 unfoldable pub openOf : List ℕ → Opened
-openOf b = answerOf b (firstGiven (linesOf b))
+openOf b = openedBy b (linesOf b)
 
--- the refusal of an answer that is one; no job asks it of an accepted table
+-- the refusal of an answer that is one; TooShort of an accepted table, which no `let .. else` hands on
 abbrev pub whyOf : Opened → Refusal
 whyOf (Refused r) = r
 whyOf (Accepted t) = TooShort

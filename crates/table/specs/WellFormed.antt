@@ -1,6 +1,6 @@
 -- Opening accepts exactly the tables that docs/RULES.md, "The table file", describes. First the description, as a record, then what
 -- each line of the refusal list says where it is not given, then the theorem. Assumes nothing.
-use mathlib.Core.Path.{_≡_, refl, ap, _∙_}
+use mathlib.Core.Path.{_≡_, refl, sym, ap, _∙_}
 use mathlib.Core.Bool.{Bool, true, false, true≢false}
 use mathlib.Core.Logic.{_↔_}
 use mathlib.Core.List.{List, _∷_}
@@ -11,13 +11,15 @@ use lib.ListN.{length}
 use Rattle.order.specs.Settled.{settled}
 use Rattle.recorder.specs.Block.{HasBit}
 use Rattle.table.specs.First.{firstIn, first-none}
+use Rattle.table.specs.Given.{firstGiven, none-given, test-off, index-off}
 use Rattle.table.specs.Layout.{kindOf, statesOf, edgesOf, setsOf, rowsOffset, targetsOffset, marksOffset, rowsAt, targetsAt, marksAt, lengthOf, tableOf, rowStart, target, mark}
-use Rattle.table.specs.Open.{rowEmpty, markWrong, given, givenAt, linesOf, firstGiven, answerOf, openOf, whyOf}
+use Rattle.table.specs.Open.{rowEmpty, markWrong, countLines, rowLines, contentLines, linesOf, openOf, whyOf}
 use Rattle.table.specs.Bits.{low-bits}
 use Rattle.table.specs.Facts.{facts}
 use Rattle.table.specs.LaidOut.{LaidOut, counts-right, layout-right}
 use Rattle.table.specs.Rows.{RowsRight, row-starts-right}
 use Rattle.table.specs.Targets.{targets-right}
+use Rattle.table.specs.Stages.{stage-accepts, accepts-says}
 use Rattle.table.specs.declared.Table.{Table}
 use Rattle.table.specs.declared.refusal.Refusal.{Refusal}
 use Rattle.table.specs.declared.Opened.{Opened}
@@ -57,42 +59,24 @@ marks-right b = simp (first-none, facts, low-bits) (λ h s l. h s zero-le l, λ 
 
 -- ---- the list
 
-line-off : (t : Bool) (r : Refusal) → (given t r ≡ none) ↔ (t ≡ false)
-line-off true r = (λ e. absurd (Option·some-ne-none r e), λ e. absurd (true≢false e))
-line-off false r = (λ e. refl, λ e. refl)
-
-line-at-off : (o : Option ℕ) (r : ℕ → Refusal) → (givenAt o r ≡ none) ↔ (o ≡ none)
-line-at-off none r = (λ e. refl, λ e. refl)
-line-at-off (some i) r = (λ e. absurd (Option·some-ne-none (r i) e), λ e. absurd (Option·some-ne-none i e))
-
--- the first line given is none where none is
-none-given : (o : Option Refusal) (rs : List (Option Refusal)) → (firstGiven (o ∷ rs) ≡ none) ↔ ((o ≡ none) × (firstGiven rs ≡ none))
-none-given none rs = (λ e. (refl, e), λ h. h .1)
-none-given (some r) rs = (λ e. absurd (Option·some-ne-none r e), λ h. h .0)
-
 -- no line is given where the table is well-formed: but for the targets, each part is found by its statement
 lines-off : (b : List ℕ) → (firstGiven (linesOf b) ≡ none) ↔ WellFormed b
-unfolding linesOf
+unfolding linesOf countLines rowLines contentLines
 lines-off b =
-    simp (none-given, line-off, line-at-off, facts, counts-right, layout-right, row-starts-right, rows-not-empty, marks-right) (
+    simp (none-given, test-off, index-off, facts, counts-right, layout-right, row-starts-right, rows-not-empty, marks-right) (
       λ (header, (kind, (counts, (layout, (rows, (targets, rest)))))).
           let (targets-in, targets-rise) = targets-right b rows .0 targets in search targets-in,
       λ w. search (targets-right b (w .rows) .1 (w .targets-in, w .targets-rise)),
     )
 
--- an answer that accepts is given where no line is, and counts as the header does
-answer-accepts : (b : List ℕ) (o : Option Refusal) (t : Table) → answerOf b o ≡ Accepted t → (o ≡ none) × (t ≡ tableOf b)
-answer-accepts b none t e = (refl, cc)
-answer-accepts b (some r) t e = absurd (let z : _≡_ {A = ℕ} 0 1 = cc in omega arith)
-
 pub accepted : (b : List ℕ) → (openOf b ≡ Accepted (tableOf b)) ↔ WellFormed b
 unfolding openOf
-accepted b = (λ e. lines-off b .0 (answer-accepts b (firstGiven (linesOf b)) (tableOf b) e .0), λ w. ap (answerOf b) (lines-off b .1 w))
+accepted b = (λ e. lines-off b .0 (accepts-says b (linesOf b) (tableOf b) e .0), λ w. sym (stage-accepts b (linesOf b) (tableOf b) (lines-off b .1 w) refl))
 
 -- an accepted table is the one that the header counts
 pub accepted-table : (b : List ℕ) (t : Table) → openOf b ≡ Accepted t → t ≡ tableOf b
 unfolding openOf
-accepted-table b t e = answer-accepts b (firstGiven (linesOf b)) t e .1
+accepted-table b t e = accepts-says b (linesOf b) t e .1
 
 -- so whatever is accepted is well-formed
 pub well-formed : (b : List ℕ) (t : Table) → openOf b ≡ Accepted t → WellFormed b

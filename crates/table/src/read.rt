@@ -9,14 +9,15 @@ ghost use Rattle.table.specs.BlockOf.{blockOf};
 ghost use Rattle.table.specs.WellFormed.{WellFormed};
 use super::Table;
 
-pub(crate) fn wide(x: u8) -> usize
+// A byte as a number that indexes.
+pub fn wide(x: u8) -> usize
     ensures { λ r. ⌜ (r ≡ x) × (r < 256) ⌝ }
 {
     x as usize
 }
 
 // The little-endian 32-bit number at index `at`.
-pub(crate) fn word(bytes: &[u8], at: usize) -> usize
+pub fn word(bytes: &[u8], at: usize) -> usize
     requires { ⌜ at + 4 ≤ length (now bytes) ⌝ }
     ensures { λ r. ⌜ r ≡ wordAt (now (bytes .entry)) at ⌝ }
 {
@@ -43,7 +44,7 @@ pub fn target(bytes: &[u8], t: Table, i: usize) -> usize
 }
 
 // The marks of state s.
-pub(crate) fn mark(bytes: &[u8], t: Table, s: usize) -> u8
+pub fn mark(bytes: &[u8], t: Table, s: usize) -> u8
     requires { ⌜ MarkInside (now bytes) t s ⌝ }
     ensures { λ r. ⌜ r ≡ markOf (now (bytes .entry)) s ⌝ }
 {

@@ -7,7 +7,8 @@ use Prim.Native.Nat.{ℕ}
 use lib.Dec.{ltb}
 use lib.ListN.{length, drop}
 use Rattle.table.specs.Layout.{statesOf, edgesOf, setsOf}
-use Rattle.table.specs.Open.{given, refusalFor, openOf}
+use Rattle.table.specs.Open.{refusalFor, openOf}
+use Rattle.table.specs.Given.{given}
 use Rattle.table.specs.Recording.{slotsOf}
 use Rattle.table.specs.declared.refusal.Refusal.{Refusal}
 use Rattle.table.specs.declared.refusal.Refusal.the-variants.{ShortOutput}

@@ -10,7 +10,8 @@ use borrow.Author.Tests.{ltb-false}
 use lib.Dec.{ltb}
 use lib.ListN.{length, take, drop}
 use lib.Seq.{take-at}
-use Rattle.table.specs.Open.{given, firstGiven, openOf}
+use Rattle.table.specs.Open.{openOf}
+use Rattle.table.specs.Given.{given, firstGiven}
 use Rattle.table.specs.WellFormed.{WellFormed, well-formed}
 use Rattle.table.specs.declared.Opened.{Opened}
 use Rattle.table.specs.declared.Opened.the-variants.{Accepted, Refused as TableRefused}

@@ -18,9 +18,9 @@ pub enum Answer {
 pub fn translate(bytes: &[u8], out: &mut [u8]) -> Answer
     ensures { λ a. ⌜ TranslateSays (now (bytes .entry)) (now (out .entry)) a (now (out .exit)) ⌝ }
 {
-    let answer = table::open(bytes);
+    let answer = opening::open(bytes);
     let Opened::Accepted(t) = answer else {
-        return Answer::Refused(table::why(answer));
+        return Answer::Refused(opening::why(answer));
     };
     let slots = recorder::slot_count(t.states, t.sets);
     let edges = quote::edge_count(t.states, t.edges, t.sets);
