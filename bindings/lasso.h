@@ -48,7 +48,8 @@
  * The translated table, which lasso_translate writes, has the same layout with kind 2, S for n, E for e, and 0 for m. It has a state for each record
  * s, t, live, v (see lasso_step), with the number ((s(n+1) + t)*2 + live)*2^m + v. S = n(n+1)*2^(m+1), E = e(n+2)*2^(m+1), and the length is
  * 32 + 5S + 4E bytes. In its marks LASSO_MARK_START is set where s is a start state, t is n, and live and v are 0; LASSO_MARK_GOAL where s has the
- * goal; LASSO_MARK_BAD where s is t, live is 0 and v has the bits of all m sets. The rest is clear. lasso_open does not accept this table.
+ * goal; LASSO_MARK_BAD where s is t, live is 0 and v has the bits of all m sets. The rest is clear. Its edges are its record's steps along each edge,
+ * with the wish on and off. lasso_open does not accept this table.
  */
 #ifndef LASSO_H
 #define LASSO_H
@@ -172,11 +173,14 @@ enum { LASSO_STATES = 1, LASSO_EDGES = 2, LASSO_SETS = 3, LASSO_OPEN_WORDS = 4 }
 uint32_t lasso_open(const uint8_t *table, size_t table_length, size_t answer[LASSO_OPEN_WORDS]);
 
 /* The size of the recorded table: S slots, E edges, the bytes of its translation, the board (its place in lasso_boards, or LASSO_NO_BOARD) and the
- * number of members of fairness sets 0 to 3, at LASSO_MEMBERS and the three words after it. */
+ * number of members of fairness sets 0 to 3, at LASSO_MEMBERS and the three words after it. Look at the board only where 0 was returned. */
 enum { LASSO_SLOTS = 1, LASSO_SLOT_EDGES = 2, LASSO_BYTES = 3, LASSO_BOARD = 4, LASSO_MEMBERS = 5, LASSO_QUOTE_WORDS = 9 };
 uint32_t lasso_quote(const uint8_t *table, size_t table_length, size_t answer[LASSO_QUOTE_WORDS]);
 
-/* Searches for the least lasso. The workspace needs 2S words and the report S words (lasso_quote tells S); what they hold before does not matter.
+/* Searches for the least lasso. A lasso is a list of states s0 to sk that begins in a start state, goes along edges, leads back from sk to a state sl of
+ * its own, has no state with the goal, and has a member of every fairness set among sl to sk. The least is the shortest, and of those the first by a
+ * fixed rule (docs/RULES.md). Without one the goal holds: every endless run that meets each set again and again meets the goal at least once.
+ * The workspace needs 2S words and the report S words (lasso_quote tells S); what they hold before does not matter.
  * Where the search is not refused, the first 2S workspace words are 0 afterwards and the rest is as it was.
  * answer[LASSO_FOUND] is 1 for a lasso: the report's first k+1 words are its states s0 to sk, the last of which leads back to place l, and the rest
  * of the report is as it was. It is 0 where the goal holds: k and l are then 0 and the report is as it was. */
@@ -191,7 +195,8 @@ uint32_t lasso_translate(const uint8_t *table, size_t table_length, uint8_t *out
                          size_t answer[LASSO_TRANSLATE_WORDS]);
 
 /* Moves one record along the edge from its state s to `next`, with or without a save wish. t is the saved state, or n for nothing; v has the fairness
- * bits. The answer is the next record; its flag live is 0 or 1. */
+ * bits, bit i for set i. A start record is s, n, 0, 0. The step: t becomes s if it was n and the wish is on; live becomes 1 if s has the goal; if t is
+ * then not n, v gets the bits of the sets that hold s. The answer is the next record; its flag live is 0 or 1. */
 enum { LASSO_S = 1, LASSO_T = 2, LASSO_LIVE = 3, LASSO_V = 4, LASSO_STEP_WORDS = 5 };
 uint32_t lasso_step(const uint8_t *table, size_t table_length, size_t s, size_t t, bool live, size_t v, size_t next, bool wish,
                     size_t answer[LASSO_STEP_WORDS]);
