@@ -3,6 +3,7 @@ use mathlib.Core.List.{List}
 use mathlib.Core.Option.{Option, none, some}
 use Prim.Native.Nat.{ℕ, _<_}
 use lib.ListN.{length}
+use Rattle.recorder.specs.Flag.{liveFlag}
 use Rattle.table.specs.declared.refusal.Refusal.{Refusal}
 use Rattle.quote.specs.Quote.{quoteOf}
 use Rattle.search.specs.Searched.{SearchSays}
@@ -26,7 +27,7 @@ VerdictSays b work report out r work′ report′ out′ =
 
 -- the translated table, or the line of a refusal
 abbrev pub translatedOr : List ℕ → Option Refusal → List ℕ
-translatedOr b none = fileOf b
+translatedOr b none = fileOf liveFlag b
 translatedOr b (some why) = refusedLine why
 
 -- the output has the translated table where there is room for it, or else the `refused` line

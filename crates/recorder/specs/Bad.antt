@@ -11,10 +11,10 @@ use lib.ListN.{length, take}
 use lib.Seq.{getD-take, length-take-le}
 use borrow.Author.Tests.{eqb-true, eq-eqb, ne-eqb}
 use Rattle.recorder.specs.Block.{Block, Sound}
-use Rattle.recorder.specs.Lasso.{Run, FairLoop, state}
+use Rattle.recorder.specs.Lasso.{Lasso, Run, FairLoop, state}
 use Rattle.recorder.specs.Flag.{Flag, liveFlag, LassoBy, flagAt}
 use Rattle.recorder.specs.Recorder.{Choice, none, place, Fits, startOf, recordAt, recordOf, badOf}
-use Rattle.recorder.specs.Looped.{IsLasso}
+use Rattle.recorder.specs.Looped.{Looped}
 use Rattle.recorder.specs.Bits.{full}
 use Rattle.recorder.specs.Matching.{Within, run-within, state-recordAt, first-recordAt}
 use Rattle.recorder.specs.Places.{placed, record-at, saved-none, saved-after, bitsAt, Met, bits-lt, bits-met, met-bits}
@@ -36,10 +36,11 @@ bad-says B r = (go (eqb (r .s) (r .t)) (r .live) (eqb (r .v) (2 ^ B .m - 1)) ref
 not-bad : (B : Block) (r : Record) → r .s < B .n → r .t ≡ B .n → badOf B r ≡ false
 not-bad B r h e = rw (ne-eqb (r .s) (r .t) (λ p. omega arith))
 
--- a state was recorded, the last state is that state again, and the first k + 1 states, looped there, are a lasso of the block by the flag
-abbrev pub Loops : Flag → Block → List ℕ → ℕ → Choice → Type 0
-Loops F B ss k none = ⊥
-Loops F B ss k (place l) = (state ss (suc k) ≡ state ss l) × LassoBy F B (take (suc k) ss) l
+-- what is looped depends only on which lassos there are
+pub looped-same : (L M : List ℕ → ℕ → Type 0) → ((ss : List ℕ) (l : ℕ) → L ss l ↔ M ss l) → (ss : List ℕ) (k : ℕ) (c : Choice)
+    → Looped L ss k c ↔ Looped M ss k c
+looped-same L M e ss k none = Iff·rfl
+looped-same L M e ss k (place l) = (λ h. (h .0, e _ l .0 (h .1)), λ h. (h .0, e _ l .1 (h .1)))
 
 -- the first k + 1 states
 same : (ss : List ℕ) (k i : ℕ) → i < suc k → state (take (suc k) ss) i ≡ state ss i
@@ -85,7 +86,7 @@ module _ (F : Flag) (B : Block) (ok : Sound B) (ss : List ℕ) (run : Run B ss) 
     met-of : (l : ℕ) → FairLoop B (take (suc k) ss) l → (b : ℕ) → b < B .m → Met B ss l (suc k) b
     met-of l f b p = let (j, q, r, s) = f .meets b p in let r′ : j < suc k = rw (taken ss k len) at r in (j, q, r′, rw (same ss k j r′) at s)
 
-    place-bad : (l : ℕ) → l < suc k → (badOf B (recordOf (recordAt F B ss (place l)) (suc k)) ≡ true) ↔ Loops F B ss k (place l)
+    place-bad : (l : ℕ) → l < suc k → (badOf B (recordOf (recordAt F B ss (place l)) (suc k)) ≡ true) ↔ Looped (LassoBy F B) ss k (place l)
     place-bad l h = (to, from)
       where
         within : Within B ss
@@ -100,7 +101,7 @@ module _ (F : Flag) (B : Block) (ok : Sound B) (ss : List ℕ) (run : Run B ss) 
         small : bitsAt B ss l (suc k) < 2 ^ B .m
         small = bits-lt B ss l ok within (suc k) (omega (arith, len))
 
-        to : badOf B (recordOf (recordAt F B ss (place l)) (suc k)) ≡ true → Loops F B ss k (place l)
+        to : badOf B (recordOf (recordAt F B ss (place l)) (suc k)) ≡ true → Looped (LassoBy F B) ss k (place l)
         to e =
             let (p, q, r) = bad-says B (placed F B ss l (suc k)) .0 (ap (badOf B) (sym at-end) ∙ e) in
             let again : state ss (suc k) ≡ state ss l = p ∙ saved-after F B ss l in-n (suc k) h in (
@@ -111,7 +112,7 @@ module _ (F : Flag) (B : Block) (ok : Sound B) (ss : List ℕ) (run : Run B ss) 
               },
             )
 
-        from : Loops F B ss k (place l) → badOf B (recordOf (recordAt F B ss (place l)) (suc k)) ≡ true
+        from : Looped (LassoBy F B) ss k (place l) → badOf B (recordOf (recordAt F B ss (place l)) (suc k)) ≡ true
         from (again, lasso) =
             ap (badOf B) at-end
             ∙ bad-says B (placed F B ss l (suc k)) .1 (
@@ -121,15 +122,11 @@ module _ (F : Flag) (B : Block) (ok : Sound B) (ss : List ℕ) (run : Run B ss) 
             )
 
     -- a run of k + 1 steps
-    pub ends-bad : (c : Choice) → Fits c (length ss) → (badOf B (recordOf (recordAt F B ss c) (suc k)) ≡ true) ↔ Loops F B ss k c
+    pub ends-bad : (c : Choice) → Fits c (length ss) → (badOf B (recordOf (recordAt F B ss c) (suc k)) ≡ true) ↔ Looped (LassoBy F B) ss k c
     ends-bad none f = (λ e. true≢false (sym e ∙ none-not-bad), λ e. absurd e)
     ends-bad (place l) f = place-bad l (omega (arith, len))
 
 -- ---- the flag of docs/RULES.md, "The recorder": the loop is a lasso
 pub bad-is-lasso : (B : Block) → Sound B → (ss : List ℕ) → Run B ss → (k : ℕ) → length ss ≡ suc (suc k) → (c : Choice) → Fits c (length ss)
-    → (badOf B (recordOf (recordAt liveFlag B ss c) (suc k)) ≡ true) ↔ IsLasso B ss k c
-bad-is-lasso B ok ss run k len c f = Iff·trans (ends-bad liveFlag B ok ss run k len c f) (go c)
-  where
-    go : (c : Choice) → Loops liveFlag B ss k c ↔ IsLasso B ss k c
-    go none = Iff·rfl
-    go (place l) = (λ h. (h .0, lasso-live B _ l .0 (h .1)), λ h. (h .0, lasso-live B _ l .1 (h .1)))
+    → (badOf B (recordOf (recordAt liveFlag B ss c) (suc k)) ≡ true) ↔ Looped (Lasso B) ss k c
+bad-is-lasso B ok ss run k len c f = Iff·trans (ends-bad liveFlag B ok ss run k len c f) (looped-same _ _ (lasso-live B) ss k c)

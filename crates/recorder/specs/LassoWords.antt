@@ -16,7 +16,8 @@ use Rattle.recorder.specs.Flag.{Flag, LassoBy}
 use Rattle.recorder.specs.Recorder.{RecordRun, Choice, none, place, Fits, recordAt, recordOf, strike, choiceOf, badOf, number}
 use Rattle.recorder.specs.Ties.{length-closed, length-tie, tie-at}
 use Rattle.recorder.specs.Matching.{recordAt-run, length-recordAt, recordAt-strike, choice-fits, strike-run}
-use Rattle.recorder.specs.Bad.{Loops, ends-bad, one-not-bad}
+use Rattle.recorder.specs.Looped.{Looped}
+use Rattle.recorder.specs.Bad.{ends-bad, one-not-bad}
 use Rattle.recorder.specs.Words.{word, word-at}
 use Rattle.recorder.specs.SlotGraph.{slotGraph, at, slot}
 use Rattle.recorder.specs.SlotRuns.{lastOf, Traced, traced, spells, at-last}
@@ -143,7 +144,8 @@ module _ (F : Flag) (B : Block) (ok : Sound B) where
           let last : length (t .rs) - 1 ≡ k = omega (arith, len, e) in
           ap (badOf B) (ap (λ (rs : List Record). recordOf rs k) again ∙ ap (recordOf (t .rs)) (sym last) ∙ t .ends) ∙ bad
 
-      loop : (k : ℕ) → length ss ≡ suc (suc k) → (d : Choice) → c ≡ d → Fits d (length ss) → Loops F B ss k d → LassoOfWord F B (spelling r)
+      loop : (k : ℕ) → length ss ≡ suc (suc k) → (d : Choice) → c ≡ d → Fits d (length ss) → Looped (LassoBy F B) ss k d
+          → LassoOfWord F B (spelling r)
       loop k e none p f q = absurd q
       loop k e (place l) p f (back, lasso) = record { ss = take (suc k) ss; l = l; lasso = lasso; tie = tie }
         where

@@ -11,7 +11,7 @@ use lib.ListN.{length}
 use Rattle.order.specs.Word.{Word, _≺_, shorter, sooner, _⊑_, less, same, ⊏-irrefl, ⊏-⊑-trans, ≺-compare, ⊑-antisym, ⊑-length}
 use Rattle.order.specs.Graph.{Safe, LeastBad}
 use Rattle.recorder.specs.Block.{Block, Sound}
-use Rattle.recorder.specs.Lasso.{Lasso, tieOf, Least, None, LeastLasso, NoLasso}
+use Rattle.recorder.specs.Lasso.{Lasso, tieOf, Least, None, LeastLasso}
 use Rattle.recorder.specs.Flag.{Flag, liveFlag, LassoBy}
 use Rattle.recorder.specs.Live.{lasso-live}
 use Rattle.recorder.specs.Ties.{length-tie, tie-determines}
@@ -93,28 +93,47 @@ module _ (F : Flag) (B : Block) (ok : Sound B) where
     λ none x r b. let h = lasso-of-bad F B ok r b in none (h .ss) (h .l) (h .lasso),
   )
 
--- ---- the rules' flag
-
-pub record LeastOfBlock (B : Block) : Type 0 where
+-- what is said of the flag F and the lassos that L says
+pub record LeastBy (F : Flag) (B : Block) (L : List ℕ → ℕ → Type 0) : Type 0 where
   -- the least bad word is the least lasso's list of numbers
-  pub spelled : (w : Word) → LeastBad (slotGraph liveFlag B) w ↔ ((ss : List ℕ) × (l : ℕ) × LeastLasso B ss l × (tieOf ss l ≡ w))
+  pub spelled : (w : Word) → LeastBad (slotGraph F B) w ↔ ((ss : List ℕ) × (l : ℕ) × Least L ss l × (tieOf ss l ≡ w))
   -- there is at most one least lasso
-  pub unique : (ss ss′ : List ℕ) (l l′ : ℕ) → LeastLasso B ss l → LeastLasso B ss′ l′ → (ss ≡ ss′) × (l ≡ l′)
+  pub unique : (ss ss′ : List ℕ) (l l′ : ℕ) → Least L ss l → Least L ss′ l′ → (ss ≡ ss′) × (l ≡ l′)
   -- no run ends bad exactly if there is no lasso, of any length
-  pub none : Safe (slotGraph liveFlag B) ↔ NoLasso B
+  pub none : Safe (slotGraph F B) ↔ None L
 
-pub least-of-block : (B : Block) → Sound B → LeastOfBlock B
-least-of-block B ok = record {
+-- it holds of every flag and its lassos
+pub least-by : (F : Flag) (B : Block) → Sound B → LeastBy F B (LassoBy F B)
+least-by F B ok = record {
+  spelled = least-word F B ok;
+  unique = least-unique (LassoBy F B) (λ ss l h. h .loop .here);
+  none = safe-none F B ok;
+}
+
+-- and depends only on which lassos there are
+least-by-same : (F : Flag) (B : Block) (L M : List ℕ → ℕ → Type 0) → ((ss : List ℕ) (l : ℕ) → L ss l ↔ M ss l) → LeastBy F B L → LeastBy F B M
+least-by-same F B L M e b = record {
   spelled = λ w. (
-    λ m. let (ss, l, h, e) = least-word liveFlag B ok w .0 m in (ss, l, least-same _ _ (lasso-live B) ss l h, e),
-    λ (ss, l, h, e). least-word liveFlag B ok w .1 (ss, l, least-same _ _ back ss l h, e),
+    λ m. let (ss, l, h, d) = b .spelled w .0 m in (ss, l, least-same L M e ss l h, d),
+    λ (ss, l, h, d). b .spelled w .1 (ss, l, least-same M L back ss l h, d),
   );
-  unique = least-unique (Lasso B) (λ ss l h. h .loop .here);
-  none = (
-    λ s ss l h. safe-none liveFlag B ok .0 s ss l (lasso-live B ss l .1 h),
-    λ n. safe-none liveFlag B ok .1 (λ ss l h. n ss l (lasso-live B ss l .0 h)),
-  );
+  unique = λ ss ss′ l l′ h h′. b .unique ss ss′ l l′ (least-same M L back ss l h) (least-same M L back ss′ l′ h′);
+  none = (λ s ss l h. b .none .0 s ss l (e ss l .1 h), λ n. b .none .1 (λ ss l h. n ss l (e ss l .0 h)));
 }
   where
-    back : (ss : List ℕ) (l : ℕ) → Lasso B ss l ↔ LassoBy liveFlag B ss l
-    back ss l = (lasso-live B ss l .1, lasso-live B ss l .0)
+    back : (ss : List ℕ) (l : ℕ) → M ss l ↔ L ss l
+    back ss l = (e ss l .1, e ss l .0)
+
+-- ---- the rules' flag
+
+-- the same of the lassos of docs/RULES.md, "Lasso and choice"
+abbrev pub LeastOfBlock : Block → Type 0
+LeastOfBlock B = LeastBy liveFlag B (Lasso B)
+
+-- the least lasso by the flag is the least lasso
+pub least-live : (B : Block) (ss : List ℕ) (l : ℕ) → Least (LassoBy liveFlag B) ss l → LeastLasso B ss l
+least-live B = least-same (LassoBy liveFlag B) (Lasso B) (lasso-live B)
+
+-- it holds of every sound block
+pub least-of-block : (B : Block) → Sound B → LeastOfBlock B
+least-of-block B ok = least-by-same liveFlag B (LassoBy liveFlag B) (Lasso B) (lasso-live B) (least-by liveFlag B ok)

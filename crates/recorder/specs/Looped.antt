@@ -3,12 +3,11 @@ use mathlib.Core.Path.{_≡_}
 use mathlib.Core.List.{List}
 use Prim.Native.Nat.{ℕ, suc}
 use lib.ListN.{take}
-use Rattle.recorder.specs.Block.{Block}
-use Rattle.recorder.specs.Lasso.{Lasso, state}
+use Rattle.recorder.specs.Lasso.{state}
 use Rattle.recorder.specs.Recorder.{Choice, none, place}
 
 -- of the k + 2 states s0..s(k+1) of a run, a length that its users ask for: a state sl was recorded, s(k+1) is that state again, and s0..sk, looped at
--- l, is a lasso
-abbrev pub IsLasso : Block → List ℕ → ℕ → Choice → Type 0
-IsLasso B ss k none = ⊥
-IsLasso B ss k (place l) = (state ss (suc k) ≡ state ss l) × Lasso B (take (suc k) ss) l
+-- l, is one of the lassos that L says
+abbrev pub Looped : (List ℕ → ℕ → Type 0) → List ℕ → ℕ → Choice → Type 0
+Looped L ss k none = ⊥
+Looped L ss k (place l) = (state ss (suc k) ≡ state ss l) × L (take (suc k) ss) l

@@ -1,5 +1,6 @@
--- The search of an accepted table, with buffers that are long enough: what its parts give together. docs/RULES.md, "Lasso and choice". A scan that
--- stopped has the least lasso's numbers on its path; one that met no bad slot shows that there is no lasso. Assumes nothing.
+-- The search of an accepted table, with buffers that are long enough: what its parts give together, over any flag. docs/RULES.md, "Lasso and choice".
+-- A scan that stopped has the least lasso's numbers on its path; one that met no bad slot shows that there is no lasso. Last the answers, which are
+-- those of the rules' flag. Assumes nothing.
 use mathlib.Core.Path.{_≡_, refl, sym, ap, _∙_}
 use mathlib.Core.List.{List, _++_}
 use Prim.Native.Nat.{ℕ, _-_, _*_, _≤_}
@@ -8,9 +9,9 @@ use lib.ListN.{length, drop}
 use Rattle.order.specs.Graph.{Safe}
 use Rattle.order.specs.Turn.{search-stops}
 use Rattle.order.specs.Word.{Word}
-use Rattle.recorder.specs.Flag.{liveFlag}
-use Rattle.recorder.specs.Lasso.{LeastLasso}
-use Rattle.recorder.specs.Least.{least-of-block}
+use Rattle.recorder.specs.Flag.{Flag, liveFlag, LassoBy}
+use Rattle.recorder.specs.Lasso.{Least}
+use Rattle.recorder.specs.Least.{least-by, least-of-block, least-live}
 use Rattle.recorder.specs.SlotGraph.{slots-determined}
 use Rattle.table.specs.Layout.{statesOf, setsOf}
 use Rattle.table.specs.BlockOf.{blockOf}
@@ -48,15 +49,16 @@ starts-asked {S} {work} v a e = rw e (record {
 })
 
 -- and then scanned
-pub scan-asked : {b : List ℕ} {t : Table} {S : ℕ} {v : List ℕ} {r : ℕ} {u : List ℕ} → StartsAsk b t S v → StartsSay b S v r u → ScanAsks b t S u r
+pub scan-asked : {F : Flag} {b : List ℕ} {t : Table} {S : ℕ} {v : List ℕ} {r : ℕ} {u : List ℕ} → StartsAsk b t S v → StartsSay F b S v r u
+    → ScanAsks F b t S u r
 scan-asked a s = record { formed = a .formed; laid = a .laid; slots-are = a .slots-are; kept = s .kept; between = s .between }
 
 -- the words past the first 2S stay all the while
-pub rest-stays : {b : List ℕ} {S : ℕ} (work v u w : List ℕ) {r : ℕ} {seen : Seen} → v ≡ cleared S work → StartsSay b S v r u → ScanSays b S u seen w
-    → drop (2 * S) w ≡ drop (2 * S) work
+pub rest-stays : {F : Flag} {b : List ℕ} {S : ℕ} (work v u w : List ℕ) {r : ℕ} {seen : Seen} → v ≡ cleared S work → StartsSay F b S v r u
+    → ScanSays F b S u seen w → drop (2 * S) w ≡ drop (2 * S) work
 rest-stays {S} work v u w e s k = k .same .rest ∙ s .same .rest ∙ ap (drop (2 * S)) e ∙ cleared-past S (2 * S) work (omega arith)
 
-pub seen-as : {b : List ℕ} {S : ℕ} {w w′ : List ℕ} {r r′ : Seen} → r ≡ r′ → ScanSays b S w r w′ → ScanSays b S w r′ w′
+pub seen-as : {F : Flag} {b : List ℕ} {S : ℕ} {w w′ : List ℕ} {r r′ : Seen} → r ≡ r′ → ScanSays F b S w r w′ → ScanSays F b S w r′ w′
 seen-as e k = rw (← e) k
 
 -- what an accepted search says
@@ -64,42 +66,42 @@ abbrev pub FindSays : List ℕ → List ℕ → List ℕ → Answer → List ℕ
 FindSays b work report a work′ report′ = AnswerSays (blockOf b) report a report′ × (work′ ≡ cleared (2 * slotsOf b) work)
 
 -- the origins of a scan that stopped lead to a start
-pub stopped-climbs : {b : List ℕ} {S : ℕ} {w : List ℕ} {head y : ℕ} → Stopped b S w head y → Climbs w S head
-stopped-climbs {b} {S} {w} {head} s = kept-climbs {G = graphOf b} S w (s .tail) head (s .kept) (s .turning .log .entries) (s .turning .next)
+pub stopped-climbs : {F : Flag} {b : List ℕ} {S : ℕ} {w : List ℕ} {head y : ℕ} → Stopped F b S w head y → Climbs w S head
+stopped-climbs {F} {b} {S} {w} {head} s = kept-climbs {G = graphOf F b} S w (s .tail) head (s .kept) (s .turning .log .entries) (s .turning .next)
 
--- the path to head has the numbers of the least lasso, but for the last
-pub record Told (b : List ℕ) (path : Word) : Type 0 where
+-- the path to head has the numbers of the least lasso by the flag, but for the last
+pub record Told (F : Flag) (b : List ℕ) (path : Word) : Type 0 where
   pub ss : List ℕ
   pub l : ℕ
-  pub least : LeastLasso (blockOf b) ss l
+  pub least : Least (LassoBy F (blockOf b)) ss l
   pub reports : Reports path ss l
 
 reports-as : {v w : Word} {ss : List ℕ} {l : ℕ} → v ≡ w → Reports v ss l → Reports w ss l
 reports-as p r = rw (← p) r
 
-pub stopped-tells : (b : List ℕ) (n m S : ℕ) (w : List ℕ) (head y : ℕ) → WellFormed b → n ≡ statesOf b → m ≡ setsOf b → Stopped b S w head y
-    → Told b (pathBy (labelOf n m) S w head)
-stopped-tells b n m S w head y f en em s =
+pub stopped-tells : (F : Flag) (b : List ℕ) (n m S : ℕ) (w : List ℕ) (head y : ℕ) → WellFormed b → n ≡ statesOf b → m ≡ setsOf b
+    → Stopped F b S w head y → Told F b (pathBy (labelOf n m) S w head)
+stopped-tells F b n m S w head y f en em s =
     let B = blockOf b in
     let ok = sound b f in
-    let bad = search-stops (slots-determined liveFlag B ok) y (s .turning) (s .edge) (s .bad) in
-    let (ss, l, least, e) = least-of-block B ok .spelled _ .0 bad in
-    let p = slot-path liveFlag B n m S w head (block-states b ∙ sym en) (block-sets b ∙ sym em) in
+    let bad = search-stops (slots-determined F B ok) y (s .turning) (s .edge) (s .bad) in
+    let (ss, l, least, e) = least-by F B ok .spelled _ .0 bad in
+    let p = slot-path F B n m S w head (block-states b ∙ sym en) (block-sets b ∙ sym em) in
     record { ss = ss; l = l; least = least; reports = reports-as p (lasso-reported ss l _ _ (least .is .loop .here) e) }
 
--- ---- the answers
+-- ---- the answers, by the rules' flag
 
-pub says-lasso : {b : List ℕ} {path : Word} {len u : ℕ} (report report′ : List ℕ) → Told b path → len ≡ length path → u ≡ odds path
+pub says-lasso : {b : List ℕ} {path : Word} {len u : ℕ} (report report′ : List ℕ) → Told liveFlag b path → len ≡ length path → u ≡ odds path
     → report′ ≡ halves path ++ drop len report → AnswerSays (blockOf b) report (Lasso (len - 1) (u - 1)) report′
 says-lasso {b} {path} {len} {u} report report′ t d e r =
     let q : u - 1 ≡ t .l = omega (arith, t .reports .place) in (
       t .ss,
       omega (arith, t .reports .size, t .least .is .loop .here),
-      rw q (t .least),
+      rw q (least-live (blockOf b) (t .ss) (t .l) (t .least)),
       r ∙ ap (λ (x : List ℕ). x ++ drop len report) (t .reports .states) ∙ ap (λ (k : ℕ). t .ss ++ drop k report) (d ∙ t .reports .size),
     )
 
-pub says-holds : {b : List ℕ} (report : List ℕ) → WellFormed b → Safe (graphOf b) → AnswerSays (blockOf b) report Holds report
+pub says-holds : {b : List ℕ} (report : List ℕ) → WellFormed b → Safe (graphOf liveFlag b) → AnswerSays (blockOf b) report Holds report
 says-holds {b} report f s = (least-of-block (blockOf b) (sound b f) .none .0 s, refl)
 
 -- what was cleared at the end is what came, cleared

@@ -1,5 +1,5 @@
 -- Queueing the starts. First what the function that queues them asks and says, then `Starting`: the starts below state s are queued, and nothing
--- else. It begins, it goes on, and at the last state the search can begin. Assumes nothing.
+-- else. It begins, it goes on, and at the last state the search can begin. Over any flag. Assumes nothing.
 use mathlib.Core.Path.{_≡_, refl, sym, ap, _∙_}
 use mathlib.Core.Bool.{Bool, true, false, true≢false}
 use mathlib.Core.List.{List}
@@ -12,7 +12,7 @@ use borrow.Author.Tests.{eq-eqb}
 use Rattle.order.specs.Log.{Queued, Entry, by-label}
 use Rattle.order.specs.Loop.{Agree, empty, push-entry, queued}
 use Rattle.order.specs.Turn.{Between}
-use Rattle.recorder.specs.Flag.{liveFlag}
+use Rattle.recorder.specs.Flag.{Flag}
 use Rattle.recorder.specs.Recorder.{startOf, badOf, number}
 use Rattle.recorder.specs.Bad.{bad-says}
 use Rattle.recorder.specs.SlotGraph.{at, slot, at-start}
@@ -35,36 +35,37 @@ pub record StartsAsk (b : List ℕ) (t : Table) (S : ℕ) (w : List ℕ) : Type 
   pub fresh : (x : ℕ) → x < S → originAt w x ≡ 0
 
 -- every start is queued, in the order of their labels, and nothing else; the words past the first 2S stay. The answer is the queue's length.
-pub record StartsSay (b : List ℕ) (S : ℕ) (w : List ℕ) (r : ℕ) (w′ : List ℕ) : Type 0 where
+pub record StartsSay (F : Flag) (b : List ℕ) (S : ℕ) (w : List ℕ) (r : ℕ) (w′ : List ℕ) : Type 0 where
   pub kept : Kept S w′ r
   pub same : SameRest S w w′
-  pub between : Between (graphOf b) (queueOf S w′) 0 r
+  pub between : Between (graphOf F b) (queueOf S w′) 0 r
 
 -- The starts below state s are queued, and nothing else.
-pub record Starting (b : List ℕ) (w : List ℕ) (tail s : ℕ) : Type 0 where
+pub record Starting (F : Flag) (b : List ℕ) (w : List ℕ) (tail s : ℕ) : Type 0 where
   pub kept : Kept (slotsOf b) w tail
-  pub entries : (i : ℕ) → i < tail → Entry (graphOf b) (queueOf (slotsOf b) w) i
+  pub entries : (i : ℕ) → i < tail → Entry (graphOf F b) (queueOf (slotsOf b) w) i
   -- all of them as starts
   pub origins : (i : ℕ) → i < tail → queueOf (slotsOf b) w .from i ≡ 0
   -- the label of state s's start is 2·s + 1
-  pub below : (i : ℕ) → i < tail → graphOf b .label (slotAt (slotsOf b) w i) < 2 * s
-  pub dealt : (s′ : ℕ) → s′ < s → blockOf b .start s′ ≡ true → Queued (queueOf (slotsOf b) w) tail (startSlot b s′) 0
+  pub below : (i : ℕ) → i < tail → graphOf F b .label (slotAt (slotsOf b) w i) < 2 * s
+  pub dealt : (s′ : ℕ) → s′ < s → blockOf b .start s′ ≡ true → Queued (queueOf (slotsOf b) w) tail (startSlot F b s′) 0
 
-module _ (b : List ℕ) (f : WellFormed b) where
-  start-label : (s : ℕ) → blockOf b .start s ≡ true → graphOf b .label (startSlot b s) ≡ 2 * s + 1
-  start-label s h = ap (number (blockOf b)) (at-start liveFlag (blockOf b) (sound b f) s h) ∙ rw (eq-eqb (blockOf b .n) (blockOf b .n) refl)
+module _ (F : Flag) (b : List ℕ) (f : WellFormed b) where
+  start-label : (s : ℕ) → blockOf b .start s ≡ true → graphOf F b .label (startSlot F b s) ≡ 2 * s + 1
+  start-label s h = ap (number (blockOf b)) (at-start F (blockOf b) (sound b f) s h) ∙ rw (eq-eqb (blockOf b .n) (blockOf b .n) refl)
 
   -- a start has nothing saved, so it is not bad
-  start-good : (x : ℕ) → graphOf b .Start x → ¬ graphOf b .Bad x
+  start-good : (x : ℕ) → graphOf F b .Start x → ¬ graphOf F b .Bad x
   start-good x (s, h, e) bad =
       let B = blockOf b in
-      let is = ap (at B) e ∙ at-start liveFlag B (sound b f) s h in
-      let p = bad-says B (startOf liveFlag B s) .0 (ap (badOf B) (sym is) ∙ bad) .0 in
+      let is = ap (at B) e ∙ at-start F B (sound b f) s h in
+      let p = bad-says B (startOf F B s) .0 (ap (badOf B) (sym is) ∙ bad) .0 in
       omega (arith, p, sound b f .start-in s h)
 
 -- nothing is queued yet
-pub starting-begins : (b : List ℕ) (w : List ℕ) → 2 * slotsOf b ≤ length w → ((x : ℕ) → x < slotsOf b → originAt w x ≡ 0) → Starting b w 0 0
-starting-begins b w l h = record {
+pub starting-begins : (F : Flag) (b : List ℕ) (w : List ℕ) → 2 * slotsOf b ≤ length w → ((x : ℕ) → x < slotsOf b → originAt w x ≡ 0)
+    → Starting F b w 0 0
+starting-begins F b w l h = record {
   kept = kept-none (slotsOf b) w l h;
   entries = empty _ _;
   origins = λ i p. absurd (omega arith);
@@ -72,15 +73,15 @@ starting-begins b w l h = record {
   dealt = λ s p. absurd (omega arith);
 }
 
-module _ (b : List ℕ) (f : WellFormed b) (w : List ℕ) (tail s : ℕ) (g : Starting b w tail s) where
+module _ (F : Flag) (b : List ℕ) (f : WellFormed b) (w : List ℕ) (tail s : ℕ) (g : Starting F b w tail s) where
   -- every start is queued: the first turn can begin
-  pub starting-ends : s ≡ statesOf b → Between (graphOf b) (queueOf (slotsOf b) w) 0 tail
+  pub starting-ends : s ≡ statesOf b → Between (graphOf F b) (queueOf (slotsOf b) w) 0 tail
   starting-ends e = record {
     log = record {
       head-le = omega arith;
       entries = g .entries;
       start-queued = λ x (s′, h, d). rw d (g .dealt s′ (omega (arith, e, block-states b, sound b f .start-in s′ h)) h);
-      start-good = start-good b f;
+      start-good = start-good F b f;
       edge-queued = λ j x l. absurd (omega arith);
       edge-good = λ j x l. absurd (omega arith);
     };
@@ -88,11 +89,11 @@ module _ (b : List ℕ) (f : WellFormed b) (w : List ℕ) (tail s : ℕ) (g : St
   }
 
   -- the slot of state s's start can be met
-  pub start-asks : s < statesOf b → MeetAsks (slotsOf b) w tail (startSlot b s) 1
-  start-asks h = record { kept = g .kept; slot-in = start-below b s h; few = slots-few b f; origin-from = omega arith; origin-to = omega arith }
+  pub start-asks : s < statesOf b → MeetAsks (slotsOf b) w tail (startSlot F b s) 1
+  start-asks h = record { kept = g .kept; slot-in = start-below F b s h; few = slots-few b f; origin-from = omega arith; origin-to = omega arith }
 
   -- state s is no start: nothing changes
-  passes : blockOf b .start s ≡ false → Starting b w tail (suc s)
+  passes : blockOf b .start s ≡ false → Starting F b w tail (suc s)
   passes no-start = record {
     kept = g .kept;
     entries = g .entries;
@@ -101,7 +102,7 @@ module _ (b : List ℕ) (f : WellFormed b) (w : List ℕ) (tail s : ℕ) (g : St
     dealt = λ s′ l h. dealt s′ h l (decLt s′ s);
   }
     where
-      dealt : (s′ : ℕ) → blockOf b .start s′ ≡ true → s′ < suc s → Dec (s′ < s) → Queued (queueOf (slotsOf b) w) tail (startSlot b s′) 0
+      dealt : (s′ : ℕ) → blockOf b .start s′ ≡ true → s′ < suc s → Dec (s′ < s) → Queued (queueOf (slotsOf b) w) tail (startSlot F b s′) 0
       dealt s′ h l (yes p) = g .dealt s′ p h
       dealt s′ h l (no p) = let d : s′ ≡ s = omega arith in absurd (true≢false (sym h ∙ ap (blockOf b .start) d ∙ no-start))
 
@@ -110,7 +111,7 @@ module _ (b : List ℕ) (f : WellFormed b) (w : List ℕ) (tail s : ℕ) (g : St
     S = slotsOf b
 
     abbrev x : ℕ
-    x = startSlot b s
+    x = startSlot F b s
 
     -- it was not met: all labels in the queue are below its own
     new : originAt w x ≡ 0
@@ -119,35 +120,35 @@ module _ (b : List ℕ) (f : WellFormed b) (w : List ℕ) (tail s : ℕ) (g : St
         go : Dec (originAt w x ≡ 0) → originAt w x ≡ 0
         go (yes e) = e
         go (no e) =
-            let (i, l, d) = g .kept .only x (start-below b s s-in) (omega arith) in
-            absurd (omega (arith, g .below i l, ap (graphOf b .label) d, start-label b f s is-start))
+            let (i, l, d) = g .kept .only x (start-below F b s s-in) (omega arith) in
+            absurd (omega (arith, g .below i l, ap (graphOf F b .label) d, start-label F b f s is-start))
 
     abbrev w⁺ : List ℕ
     w⁺ = meeting S tail x 1 w
 
     agrees : Agree (queueOf S w) (queueOf S w⁺) tail
-    agrees = meeting-agrees S tail x 1 w (g .kept) (start-below b s s-in) new (omega arith)
+    agrees = meeting-agrees S tail x 1 w (g .kept) (start-below F b s s-in) new (omega arith)
 
     node : slotAt S w⁺ tail ≡ x
-    node = meeting-node S tail x 1 w (g .kept) (start-below b s s-in) new (omega arith)
+    node = meeting-node S tail x 1 w (g .kept) (start-below F b s s-in) new (omega arith)
 
     origin : queueOf S w⁺ .from tail ≡ 0
-    origin = ap (λ (o : ℕ). o - 1) (ap (originAt w⁺) node ∙ meeting-origin S tail x 1 w (g .kept) (start-below b s s-in) new (omega arith))
+    origin = ap (λ (o : ℕ). o - 1) (ap (originAt w⁺) node ∙ meeting-origin S tail x 1 w (g .kept) (start-below F b s s-in) new (omega arith))
 
-    label : graphOf b .label (slotAt S w⁺ tail) ≡ 2 * s + 1
-    label = ap (graphOf b .label) node ∙ start-label b f s is-start
+    label : graphOf F b .label (slotAt S w⁺ tail) ≡ 2 * s + 1
+    label = ap (graphOf F b .label) node ∙ start-label F b f s is-start
 
     -- it is queued at tail
-    queues : Starting b w⁺ (suc tail) (suc s)
+    queues : Starting F b w⁺ (suc tail) (suc s)
     queues = record {
-      kept = meeting-keeps S tail x 1 w (g .kept) (start-below b s s-in) new (omega arith);
+      kept = meeting-keeps S tail x 1 w (g .kept) (start-below F b s s-in) new (omega arith);
       entries = push-entry agrees (g .entries) (record {
         start = λ z. (s, is-start, node);
         parent = λ p z. absurd (omega (arith, origin));
         edge = λ p z. absurd (omega (arith, origin));
         sorted = λ k z.
             let l : k < tail = omega arith in
-            by-label (agrees .from k l ∙ g .origins k l ∙ sym origin) (omega (arith, label, ap (graphOf b .label) (agrees .node k l), g .below k l));
+            by-label (agrees .from k l ∙ g .origins k l ∙ sym origin) (omega (arith, label, ap (graphOf F b .label) (agrees .node k l), g .below k l));
       });
       origins = λ i l. origins i l (decLt i tail);
       below = λ i l. below i l (decLt i tail);
@@ -158,21 +159,21 @@ module _ (b : List ℕ) (f : WellFormed b) (w : List ℕ) (tail s : ℕ) (g : St
         origins i l (yes p) = agrees .from i p ∙ g .origins i p
         origins i l (no p) = let d : i ≡ tail = omega arith in ap (queueOf S w⁺ .from) d ∙ origin
 
-        below : (i : ℕ) → i < suc tail → Dec (i < tail) → graphOf b .label (slotAt S w⁺ i) < 2 * suc s
-        below i l (yes p) = omega (arith, g .below i p, ap (graphOf b .label) (agrees .node i p))
-        below i l (no p) = let d : i ≡ tail = omega arith in omega (arith, label, ap (λ (i : ℕ). graphOf b .label (slotAt S w⁺ i)) d)
+        below : (i : ℕ) → i < suc tail → Dec (i < tail) → graphOf F b .label (slotAt S w⁺ i) < 2 * suc s
+        below i l (yes p) = omega (arith, g .below i p, ap (graphOf F b .label) (agrees .node i p))
+        below i l (no p) = let d : i ≡ tail = omega arith in omega (arith, label, ap (λ (i : ℕ). graphOf F b .label (slotAt S w⁺ i)) d)
 
-        dealt : (s′ : ℕ) → blockOf b .start s′ ≡ true → s′ < suc s → Dec (s′ < s) → Queued (queueOf S w⁺) (suc tail) (startSlot b s′) 0
+        dealt : (s′ : ℕ) → blockOf b .start s′ ≡ true → s′ < suc s → Dec (s′ < s) → Queued (queueOf S w⁺) (suc tail) (startSlot F b s′) 0
         dealt s′ h l (yes p) = queued agrees (g .dealt s′ p h)
         dealt s′ h l (no p) =
             let d : s ≡ s′ = omega arith in
-            record { place = tail; place-lt = omega arith; is-node = node ∙ ap (startSlot b) d; origin-le = omega (arith, origin) }
+            record { place = tail; place-lt = omega arith; is-node = node ∙ ap (startSlot F b) d; origin-le = omega (arith, origin) }
 
   -- state s is dealt with
-  pub starting-on : (r : ℕ) (w′ : List ℕ) → s < statesOf b → MeetIfSays (blockOf b .start s) (slotsOf b) w tail (startSlot b s) 1 r w′ → Starting b w′ r (s + 1)
+  pub starting-on : (r : ℕ) (w′ : List ℕ) → s < statesOf b → MeetIfSays (blockOf b .start s) (slotsOf b) w tail (startSlot F b s) 1 r w′ → Starting F b w′ r (s + 1)
   starting-on r w′ s-in m = rw (add-one s) (go (blockOf b .start s) refl)
     where
-      go : (u : Bool) → blockOf b .start s ≡ u → Starting b w′ r (suc s)
+      go : (u : Bool) → blockOf b .start s ≡ u → Starting F b w′ r (suc s)
       go true e =
           let (p, q) = m .is-wanted e .is-new (new e s-in) in
           rw (p, q, add-one tail) (queues e s-in)

@@ -1,4 +1,5 @@
 // The nested scan of queue and row, left at the first bad slot, in the middle of a row if need be.
+ghost use Rattle.recorder.specs.Flag.{liveFlag};
 ghost use Rattle.search.specs.Scan.{ScanAsks, ScanSays};
 use super::meet;
 use recorder::Record;
@@ -11,8 +12,8 @@ pub enum Seen {
 }
 
 pub(crate) fn scan(bytes: &[u8], t: Table, work: &mut [u32], slots: usize, queued: usize) -> Seen
-    requires { ⌜ ScanAsks (now bytes) t slots (now work) queued ⌝ }
-    ensures { λ r. ⌜ ScanSays (now (bytes .entry)) slots (now (work .entry)) r (now (work .exit)) ⌝ }
+    requires { ⌜ ScanAsks liveFlag (now bytes) t slots (now work) queued ⌝ }
+    ensures { λ r. ⌜ ScanSays liveFlag (now (bytes .entry)) slots (now (work .entry)) r (now (work .exit)) ⌝ }
 {
     let n = t.states;
     let m = t.sets;

@@ -1,4 +1,5 @@
 // Queueing the starts, in the order of their labels.
+ghost use Rattle.recorder.specs.Flag.{liveFlag};
 ghost use Rattle.search.specs.Starts.{StartsAsk, StartsSay};
 use super::meet;
 use recorder::Record;
@@ -7,7 +8,7 @@ use table::Table;
 // Meets the slot of each start's record, as a start; answers the queue's length.
 pub(crate) fn queue_starts(bytes: &[u8], t: Table, work: &mut [u32], slots: usize) -> usize
     requires { ⌜ StartsAsk (now bytes) t slots (now work) ⌝ }
-    ensures { λ r. ⌜ StartsSay (now (bytes .entry)) slots (now (work .entry)) r (now (work .exit)) ⌝ }
+    ensures { λ r. ⌜ StartsSay liveFlag (now (bytes .entry)) slots (now (work .entry)) r (now (work .exit)) ⌝ }
 {
     let n = t.states;
     let m = t.sets;

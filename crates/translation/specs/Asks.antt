@@ -9,7 +9,7 @@ use native.Mathlib.Omega.{arith}
 use lib.Dec.{eqb}
 use lib.ListN.{length}
 use mir.Val.{boolByte}
-use Rattle.recorder.specs.Flag.{liveFlag}
+use Rattle.recorder.specs.Flag.{Flag, liveFlag}
 use Rattle.recorder.specs.Recorder.{startOf, badOf, unsaved}
 use Rattle.recorder.specs.Slots.{slotOf, recordOfSlot, bitOf, InRange, slot-of-record, saved-in, bits-in}
 use Rattle.recorder.specs.SlotGraph.{at, slot}
@@ -44,10 +44,10 @@ pub record Carries (t : Table) (p : ℕ) (r : Record) (Section : Type 0) : Type 
 pub slots-small : {b : List ℕ} {t : Table} {S : ℕ} → Asks b t S → S < 4294967295
 slots-small {b} a = omega (arith, a .slots-are, slots-few b (a .formed))
 
-pub starts-small : {b : List ℕ} {t : Table} {S p : ℕ} → Asks b t S → p ≤ S → startOfRow b p ≤ 1024 * 66 * 2 ^ 9
-starts-small {b} {p = p} a h =
+pub starts-small : (R : Flag) {b : List ℕ} {t : Table} {S p : ℕ} → Asks b t S → p ≤ S → startOfRow R b p ≤ 1024 * 66 * 2 ^ 9
+starts-small R {b} {p = p} a h =
     let f = a .formed in
-    omega (arith, starts-to b f p (omega (arith, a .slots-are)), edges-small (statesOf b) (edgesOf b) (setsOf b) (f .states-to) (f .edges-to) (omega (arith, f .sets-to)))
+    omega (arith, starts-to R b f p (omega (arith, a .slots-are)), edges-small (statesOf b) (edgesOf b) (setsOf b) (f .states-to) (f .edges-to) (omega (arith, f .sets-to)))
 
 -- the machine's number of a bool is the rule's
 pub byte-is-bit : (u : Bool) → boolByte u ≡ bitOf u
@@ -106,37 +106,38 @@ module _ {b : List ℕ} {t : Table} {S p : ℕ} {r : Record} (a : Asks b t S) (h
       (row-some b (a .formed) (stateOf b p) s-in, omega (arith, row-to b (a .formed) (stateOf b p) s-in, a .laid .edges-are))
 
   -- how long it is
-  pub row-counted : {from to : ℕ} → from ≡ rowStart b (r .s) → to ≡ rowStart b (r .s + 1) → (to - from) * (1 + boolByte (eqb (r .t) (t .states))) ≡ length (rowOf b p)
-  row-counted {from} {to} d d′ =
+  pub row-counted : (R : Flag) {from to : ℕ} → from ≡ rowStart b (r .s) → to ≡ rowStart b (r .s + 1) → (to - from) * (1 + boolByte (eqb (r .t) (t .states))) ≡ length (rowOf R b p)
+  row-counted R {from} {to} d d′ =
       ap₂ _*_ (ap₂ _-_ (to-is d′) (from-is d)) (ap (λ (u : Bool). 1 + boolByte u) unsaved-is ∙ go (unsaved (blockOf b) (at (blockOf b) p .t)))
-      ∙ sym (length-row b p)
+      ∙ sym (length-row R b p)
     where
       go : (u : Bool) → 1 + boolByte u ≡ cond u 2 1
       go true = refl
       go false = refl
 
   -- which is not much
-  pub row-few : length (rowOf b p) ≤ 2 * t .edges
-  row-few = rw (length-row b p) (go (toOf b p - fromOf b p) (unsaved (blockOf b) (at (blockOf b) p .t)) (omega (arith, row-in)))
+  pub row-few : (R : Flag) → length (rowOf R b p) ≤ 2 * t .edges
+  row-few R = rw (length-row R b p) (go (toOf b p - fromOf b p) (unsaved (blockOf b) (at (blockOf b) p .t)) (omega (arith, row-in)))
     where
       go : (k : ℕ) (u : Bool) → k ≤ t .edges → k * cond u 2 1 ≤ 2 * t .edges
       go k true h = omega arith
       go k false h = omega arith
 
-  -- the start record of its state
-  module _ {first : Record} (d : StartSays (r .s) (t .states) first) where
-    first-is : first ≡ startOf liveFlag (blockOf b) (r .s)
-    first-is = d (blockOf b) (block-states b ∙ sym (a .laid .states-are))
+  -- the start record of its state, as the code makes it
+  pub first-is : {first : Record} → StartSays (r .s) (t .states) first → first ≡ startOf liveFlag (blockOf b) (r .s)
+  first-is d = d (blockOf b) (block-states b ∙ sym (a .laid .states-are))
 
+  -- and by any flag
+  module _ (R : Flag) {first : Record} (is : first ≡ startOf R (blockOf b) (r .s)) where
     pub first-range : (t .states ≤ 64) × (t .sets ≤ 8) × InRange (t .states) (t .sets) first
-    first-range = made-range b t (a .laid) (r .s) first first-is state-below
+    first-range = made-range R b t (a .laid) (r .s) first is state-below
 
-    first-slot : {x : ℕ} → x ≡ slotOf (t .states) (t .sets) first → x ≡ startSlot b (stateOf b p)
-    first-slot {x} q = made-slot b t (a .laid) (r .s) first first-is x q ∙ ap (λ (r : Record). startSlot b (r .s)) record-is
+    first-slot : {x : ℕ} → x ≡ slotOf (t .states) (t .sets) first → x ≡ startSlot R b (stateOf b p)
+    first-slot {x} q = made-slot R b t (a .laid) (r .s) first is x q ∙ ap (λ (r : Record). startSlot R b (r .s)) record-is
 
     -- its mark
     pub mark-is : {x : ℕ} {start goal bad : Bool} → x ≡ slotOf (t .states) (t .sets) first → start ≡ blockOf b .start (r .s) → goal ≡ blockOf b .goal (r .s)
-        → BadSays r (t .sets) bad → boolByte (start && eqb p x) + 2 * boolByte goal + 64 * boolByte bad ≡ slotMark b p
+        → BadSays r (t .sets) bad → boolByte (start && eqb p x) + 2 * boolByte goal + 64 * boolByte bad ≡ slotMark R b p
     unfolding slotMark isStart
     mark-is q es eg eb =
         let es′ = es ∙ ap (λ (r : Record). blockOf b .start (r .s)) record-is in

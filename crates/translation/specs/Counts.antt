@@ -15,6 +15,7 @@ use lib.Pow.{shr-shr}
 use lib.Seq.{getD-at}
 use borrow.Author.Tests.{eq-eqb, ne-eqb}
 use Rattle.quote.specs.Sizes.{edgeCount, translatedLength, stepsOf}
+use Rattle.recorder.specs.Flag.{Flag}
 use Rattle.recorder.specs.Slots.{slotCount, recordOfSlot}
 use Rattle.recorder.specs.SlotGraph.{at}
 use Rattle.table.specs.BlockOf.{blockOf}
@@ -49,37 +50,37 @@ length-little (x ∷ xs) = omega (arith, length-little xs)
 -- ---- one row
 
 -- along one edge: as many targets as the quote counts steps
-length-along : (b : List ℕ) (p s′ : ℕ) → length (alongOf b p s′) ≡ stepsOf (blockOf b .n) (at (blockOf b) p .t)
-length-along b p s′ = go (eqb (at (blockOf b) p .t) (blockOf b .n)) refl
+length-along : (R : Flag) (b : List ℕ) (p s′ : ℕ) → length (alongOf R b p s′) ≡ stepsOf (blockOf b .n) (at (blockOf b) p .t)
+length-along R b p s′ = go (eqb (at (blockOf b) p .t) (blockOf b .n)) refl
   where
-    go : (u : Bool) → eqb (at (blockOf b) p .t) (blockOf b .n) ≡ u → length (alongOf b p s′) ≡ stepsOf (blockOf b .n) (at (blockOf b) p .t)
+    go : (u : Bool) → eqb (at (blockOf b) p .t) (blockOf b .n) ≡ u → length (alongOf R b p s′) ≡ stepsOf (blockOf b .n) (at (blockOf b) p .t)
     go true e = rw e
     go false e = rw e
 
 -- along k edges
-length-along-from : (b : List ℕ) (p i k : ℕ) → length (alongFrom b p i k) ≡ k * stepsOf (blockOf b .n) (at (blockOf b) p .t)
+length-along-from : (R : Flag) (b : List ℕ) (p i k : ℕ) → length (alongFrom R b p i k) ≡ k * stepsOf (blockOf b .n) (at (blockOf b) p .t)
 unfolding alongFrom
-length-along-from b p i zero = omega arith
-length-along-from b p i (suc k) = rw (length-append, length-along b p (target b i), length-along-from b p (suc i) k) (omega arith)
+length-along-from R b p i zero = omega arith
+length-along-from R b p i (suc k) = rw (length-append, length-along R b p (target b i), length-along-from R b p (suc i) k) (omega arith)
 
 -- a row has that many for each edge of the slot's state
-pub length-row : (b : List ℕ) (p : ℕ) → length (rowOf b p) ≡ (toOf b p - fromOf b p) * stepsOf (blockOf b .n) (at (blockOf b) p .t)
+pub length-row : (R : Flag) (b : List ℕ) (p : ℕ) → length (rowOf R b p) ≡ (toOf b p - fromOf b p) * stepsOf (blockOf b .n) (at (blockOf b) p .t)
 unfolding rowOf
-length-row b p = length-along-from b p (fromOf b p) (toOf b p - fromOf b p)
+length-row R b p = length-along-from R b p (fromOf b p) (toOf b p - fromOf b p)
 
 -- the next row starts where this one ends
-pub starts-step : (b : List ℕ) (p : ℕ) → startOfRow b (suc p) ≡ startOfRow b p + length (rowOf b p)
+pub starts-step : (R : Flag) (b : List ℕ) (p : ℕ) → startOfRow R b (suc p) ≡ startOfRow R b p + length (rowOf R b p)
 unfolding targetsTo
-starts-step b p = length-append (targetsTo b p) (rowOf b p)
+starts-step R b p = length-append (targetsTo R b p) (rowOf R b p)
 
 -- so the starts never fall
-pub starts-rise : (b : List ℕ) (p q : ℕ) → p ≤ q → startOfRow b p ≤ startOfRow b q
-starts-rise b p zero h = le-of-eq (ap (startOfRow b) (omega arith))
-starts-rise b p (suc q) h = go (eq-or-lt-of-le h) (starts-rise b p q)
+pub starts-rise : (R : Flag) (b : List ℕ) (p q : ℕ) → p ≤ q → startOfRow R b p ≤ startOfRow R b q
+starts-rise R b p zero h = le-of-eq (ap (startOfRow R b) (omega arith))
+starts-rise R b p (suc q) h = go (eq-or-lt-of-le h) (starts-rise R b p q)
   where
-    go : (p ≡ suc q) ⊎ (p < suc q) → (p ≤ q → startOfRow b p ≤ startOfRow b q) → startOfRow b p ≤ startOfRow b (suc q)
-    go (inl e) ih = le-of-eq (ap (startOfRow b) e)
-    go (inr l) ih = omega (arith, ih (omega arith), starts-step b q)
+    go : (p ≡ suc q) ⊎ (p < suc q) → (p ≤ q → startOfRow R b p ≤ startOfRow R b q) → startOfRow R b p ≤ startOfRow R b (suc q)
+    go (inl e) ih = le-of-eq (ap (startOfRow R b) e)
+    go (inr l) ih = omega (arith, ih (omega arith), starts-step R b q)
 
 -- ---- all rows
 
@@ -107,61 +108,62 @@ abbrev edgesFrom : List ℕ → ℕ → ℕ
 edgesFrom b s = rowStart b (suc s) - rowStart b s
 
 -- the row of each of those slots
-length-there : (b : List ℕ) (s t r : ℕ) → t ≤ statesOf b → r < 2 ^ (setsOf b + 1)
-    → length (rowOf b (firstOf b s t + r)) ≡ edgesFrom b s * stepsOf (statesOf b) t
+length-there : (R : Flag) (b : List ℕ) (s t r : ℕ) → t ≤ statesOf b → r < 2 ^ (setsOf b + 1)
+    → length (rowOf R b (firstOf b s t + r)) ≡ edgesFrom b s * stepsOf (statesOf b) t
 unfolding blockOf
-length-there b s t r ht hr =
-    length-row b (firstOf b s t + r) ∙ rw (state-there (statesOf b) (setsOf b) s t r ht hr, saved-there (statesOf b) (setsOf b) s t r ht hr)
+length-there R b s t r ht hr =
+    length-row R b (firstOf b s t + r) ∙ rw (state-there (statesOf b) (setsOf b) s t r ht hr, saved-there (statesOf b) (setsOf b) s t r ht hr)
 
 -- over the flags and bits: r of them passed
-starts-bits : (b : List ℕ) (s t r : ℕ) → t ≤ statesOf b → r ≤ 2 ^ (setsOf b + 1)
-    → startOfRow b (firstOf b s t + r) ≡ startOfRow b (firstOf b s t) + r * (edgesFrom b s * stepsOf (statesOf b) t)
-starts-bits b s t zero ht hr = let h : firstOf b s t + 0 ≡ firstOf b s t = omega arith in rw h (omega arith)
-starts-bits b s t (suc r) ht hr =
+starts-bits : (R : Flag) (b : List ℕ) (s t r : ℕ) → t ≤ statesOf b → r ≤ 2 ^ (setsOf b + 1)
+    → startOfRow R b (firstOf b s t + r) ≡ startOfRow R b (firstOf b s t) + r * (edgesFrom b s * stepsOf (statesOf b) t)
+starts-bits R b s t zero ht hr = let h : firstOf b s t + 0 ≡ firstOf b s t = omega arith in rw h (omega arith)
+starts-bits R b s t (suc r) ht hr =
     let h : firstOf b s t + suc r ≡ suc (firstOf b s t + r) = omega arith in
-    rw h (omega (arith, starts-step b (firstOf b s t + r), length-there b s t r ht hr, starts-bits b s t r ht (omega arith)))
+    rw h (omega (arith, starts-step R b (firstOf b s t + r), length-there R b s t r ht hr, starts-bits R b s t r ht (omega arith)))
 
 -- from one saved t to the next
-starts-next : (b : List ℕ) (s t : ℕ) → t ≤ statesOf b
-    → startOfRow b (firstOf b s (suc t)) ≡ startOfRow b (firstOf b s t) + 2 ^ (setsOf b + 1) * (edgesFrom b s * stepsOf (statesOf b) t)
-starts-next b s t ht =
+starts-next : (R : Flag) (b : List ℕ) (s t : ℕ) → t ≤ statesOf b
+    → startOfRow R b (firstOf b s (suc t)) ≡ startOfRow R b (firstOf b s t) + 2 ^ (setsOf b + 1) * (edgesFrom b s * stepsOf (statesOf b) t)
+starts-next R b s t ht =
     let h : firstOf b s (suc t) ≡ firstOf b s t + 2 ^ (setsOf b + 1) = omega arith in
-    ap (startOfRow b) h ∙ starts-bits b s t (2 ^ (setsOf b + 1)) ht (omega arith)
+    ap (startOfRow R b) h ∙ starts-bits R b s t (2 ^ (setsOf b + 1)) ht (omega arith)
 
 -- over the t below n: t of them passed, each with one target an edge
-starts-saved : (b : List ℕ) (s t : ℕ) → t ≤ statesOf b
-    → startOfRow b (firstOf b s t) ≡ startOfRow b (firstOf b s 0) + t * edgesFrom b s * 2 ^ (setsOf b + 1)
-starts-saved b s zero ht = omega arith
-starts-saved b s (suc t) ht =
-    let h = rw (ne-eqb t (statesOf b) (λ e. omega arith)) at (starts-next b s t (omega arith)) in
-    omega (arith, starts-saved b s t (omega arith))
+starts-saved : (R : Flag) (b : List ℕ) (s t : ℕ) → t ≤ statesOf b
+    → startOfRow R b (firstOf b s t) ≡ startOfRow R b (firstOf b s 0) + t * edgesFrom b s * 2 ^ (setsOf b + 1)
+starts-saved R b s zero ht = omega arith
+starts-saved R b s (suc t) ht =
+    let h = rw (ne-eqb t (statesOf b) (λ e. omega arith)) at (starts-next R b s t (omega arith)) in
+    omega (arith, starts-saved R b s t (omega arith))
 
 -- over the states: each has n such t, and t = n, where nothing is saved, with two targets an edge
-starts-states : (b : List ℕ) → WellFormed b → (s : ℕ) → s ≤ statesOf b
-    → startOfRow b (firstOf b s 0) ≡ rowStart b s * (statesOf b + 2) * 2 ^ (setsOf b + 1)
+starts-states : (R : Flag) (b : List ℕ) → WellFormed b → (s : ℕ) → s ≤ statesOf b
+    → startOfRow R b (firstOf b s 0) ≡ rowStart b s * (statesOf b + 2) * 2 ^ (setsOf b + 1)
 unfolding targetsTo
-starts-states b f zero hs = let h : firstOf b 0 0 ≡ 0 = omega arith in rw (h, f .rows .first-row) (omega arith)
-starts-states b f (suc s) hs =
+starts-states R b f zero hs = let h : firstOf b 0 0 ≡ 0 = omega arith in rw (h, f .rows .first-row) (omega arith)
+starts-states R b f (suc s) hs =
     let n = statesOf b in
     let h : firstOf b (suc s) 0 ≡ firstOf b s (suc n) = omega arith in
     let d : rowStart b (suc s) ≡ rowStart b s + edgesFrom b s = omega (arith, f .rows .rows-rise s hs) in
-    let l = rw (eq-eqb n n refl) at (starts-next b s n (omega arith)) in
-    rw (h, d) (omega (arith, starts-saved b s n (omega arith), starts-states b f s (omega arith)))
+    let l = rw (eq-eqb n n refl) at (starts-next R b s n (omega arith)) in
+    rw (h, d) (omega (arith, starts-saved R b s n (omega arith), starts-states R b f s (omega arith)))
 
 -- all rows together have E targets
-pub all-targets : (b : List ℕ) → WellFormed b → startOfRow b (slotsOf b) ≡ edgeCount (statesOf b) (edgesOf b) (setsOf b)
+pub all-targets : (R : Flag) (b : List ℕ) → WellFormed b → startOfRow R b (slotsOf b) ≡ edgeCount (statesOf b) (edgesOf b) (setsOf b)
 unfolding edgeCount slotCount
-all-targets b f =
+all-targets R b f =
     let h : slotsOf b ≡ firstOf b (statesOf b) 0 = omega arith in
-    ap (startOfRow b) h ∙ starts-states b f (statesOf b) (omega arith) ∙ rw (f .rows .last-row)
+    ap (startOfRow R b) h ∙ starts-states R b f (statesOf b) (omega arith) ∙ rw (f .rows .last-row)
 
 -- no row starts past E
-pub starts-to : (b : List ℕ) → WellFormed b → (p : ℕ) → p ≤ slotsOf b → startOfRow b p ≤ edgeCount (statesOf b) (edgesOf b) (setsOf b)
-starts-to b f p h = omega (arith, starts-rise b p (slotsOf b) h, all-targets b f)
+pub starts-to : (R : Flag) (b : List ℕ) → WellFormed b → (p : ℕ) → p ≤ slotsOf b → startOfRow R b p ≤ edgeCount (statesOf b) (edgesOf b) (setsOf b)
+starts-to R b f p h = omega (arith, starts-rise R b p (slotsOf b) h, all-targets R b f)
 
 -- ---- the file
 
 -- the file is as long as the quote says
-pub length-file : (b : List ℕ) → WellFormed b → length (fileOf b) ≡ translatedLength (slotsOf b) (edgeCount (statesOf b) (edgesOf b) (setsOf b))
+pub length-file : (R : Flag) (b : List ℕ) → WellFormed b
+    → length (fileOf R b) ≡ translatedLength (slotsOf b) (edgeCount (statesOf b) (edgesOf b) (setsOf b))
 unfolding fileOf
-length-file b f = simp (length-append, length-little, length-listed) (omega (arith, all-targets b f))
+length-file R b f = simp (length-append, length-little, length-listed) (omega (arith, all-targets R b f))

@@ -1,11 +1,11 @@
 -- The translated table as a file. docs/RULES.md, "Translated table": kind 2, m written 0, one state for each slot,
--- in the layout of "The table file". Definitions only. Assumes nothing.
+-- in the layout of "The table file". By any flag R; the contracts say `liveFlag`. Definitions only. Assumes nothing.
 use mathlib.Core.Bool.{Bool, true, false, cond, _&&_}
 use mathlib.Core.List.{List, [], _∷_, _++_}
 use Prim.Native.Nat.{ℕ, zero, suc, _+_, _-_, _*_}
 use lib.Dec.{eqb}
 use lib.ListN.{length}
-use Rattle.recorder.specs.Flag.{liveFlag}
+use Rattle.recorder.specs.Flag.{Flag}
 use Rattle.recorder.specs.Recorder.{startOf, badOf, unsaved}
 use Rattle.recorder.specs.Slots.{bitOf}
 use Rattle.recorder.specs.SlotGraph.{at, slot}
@@ -16,22 +16,22 @@ use Rattle.table.specs.Recording.{slotsOf, nextOf, stateOf, fromOf, toOf}
 -- ---- the targets
 
 -- what slot p leads to along an edge to s′, rising: the step that saves, and where nothing is saved the other one too
-abbrev pub alongOf : List ℕ → ℕ → ℕ → List ℕ
-alongOf b p s′ = nextOf b p s′ true ∷ cond (unsaved (blockOf b) (at (blockOf b) p .t)) (nextOf b p s′ false ∷ []) []
+abbrev pub alongOf : Flag → List ℕ → ℕ → ℕ → List ℕ
+alongOf R b p s′ = nextOf R b p s′ true ∷ cond (unsaved (blockOf b) (at (blockOf b) p .t)) (nextOf R b p s′ false ∷ []) []
 
 -- the same along k targets from target i on
-unfoldable pub alongFrom : List ℕ → ℕ → ℕ → ℕ → List ℕ
-alongFrom b p i zero = []
-alongFrom b p i (suc k) = alongOf b p (target b i) ++ alongFrom b p (suc i) k
+unfoldable pub alongFrom : Flag → List ℕ → ℕ → ℕ → ℕ → List ℕ
+alongFrom R b p i zero = []
+alongFrom R b p i (suc k) = alongOf R b p (target b i) ++ alongFrom R b p (suc i) k
 
 -- the row of slot p: along all targets of its state
-unfoldable pub rowOf : List ℕ → ℕ → List ℕ
-rowOf b p = alongFrom b p (fromOf b p) (toOf b p - fromOf b p)
+unfoldable pub rowOf : Flag → List ℕ → ℕ → List ℕ
+rowOf R b p = alongFrom R b p (fromOf b p) (toOf b p - fromOf b p)
 
 -- the rows of the slots below p, one after the other
-unfoldable pub targetsTo : List ℕ → ℕ → List ℕ
-targetsTo b zero = []
-targetsTo b (suc p) = targetsTo b p ++ rowOf b p
+unfoldable pub targetsTo : Flag → List ℕ → ℕ → List ℕ
+targetsTo R b zero = []
+targetsTo R b (suc p) = targetsTo R b p ++ rowOf R b p
 
 -- ---- the row starts and the marks
 
@@ -41,16 +41,16 @@ listed f zero = []
 listed f (suc k) = listed f k ++ (f k ∷ [])
 
 -- where the row of slot p starts
-abbrev pub startOfRow : List ℕ → ℕ → ℕ
-startOfRow b p = length (targetsTo b p)
+abbrev pub startOfRow : Flag → List ℕ → ℕ → ℕ
+startOfRow R b p = length (targetsTo R b p)
 
 -- slot p is the slot of a start record
-unfoldable pub isStart : List ℕ → ℕ → Bool
-isStart b p = blockOf b .start (stateOf b p) && eqb p (slot (blockOf b) (startOf liveFlag (blockOf b) (stateOf b p)))
+unfoldable pub isStart : Flag → List ℕ → ℕ → Bool
+isStart R b p = blockOf b .start (stateOf b p) && eqb p (slot (blockOf b) (startOf R (blockOf b) (stateOf b p)))
 
 -- bit 0 start, bit 1 the goal mark of s, bit 6 bad
-unfoldable pub slotMark : List ℕ → ℕ → ℕ
-slotMark b p = bitOf (isStart b p) + 2 * bitOf (blockOf b .goal (stateOf b p)) + 64 * bitOf (badOf (blockOf b) (at (blockOf b) p))
+unfoldable pub slotMark : Flag → List ℕ → ℕ → ℕ
+slotMark R b p = bitOf (isStart R b p) + 2 * bitOf (blockOf b .goal (stateOf b p)) + 64 * bitOf (badOf (blockOf b) (at (blockOf b) p))
 
 -- ---- the file
 
@@ -59,7 +59,7 @@ abbrev pub headerOf : ℕ → ℕ → List ℕ
 headerOf S E = 2 ∷ S ∷ E ∷ 0 ∷ rowsAt ∷ targetsAt S ∷ marksAt S E ∷ []
 
 -- header, row starts, targets, marks
-unfoldable pub fileOf : List ℕ → List ℕ
-fileOf b =
+unfoldable pub fileOf : Flag → List ℕ → List ℕ
+fileOf R b =
     let S = slotsOf b in
-    littleEndian (headerOf S (startOfRow b S)) ++ littleEndian (listed (startOfRow b) (suc S)) ++ littleEndian (targetsTo b S) ++ listed (slotMark b) S
+    littleEndian (headerOf S (startOfRow R b S)) ++ littleEndian (listed (startOfRow R b) (suc S)) ++ littleEndian (targetsTo R b S) ++ listed (slotMark R b) S

@@ -8,6 +8,7 @@ use native.Mathlib.Omega.{arith}
 use lib.Dec.{ltb}
 use lib.ListN.{length, take, drop, length-append}
 use borrow.Author.Tests.{lt-ltb, le-ltb}
+use Rattle.recorder.specs.Flag.{Flag, liveFlag}
 use Rattle.recorder.specs.Fits.{count-small}
 use Rattle.quote.specs.Sizes.{edgeCount, edges-small}
 use Rattle.table.specs.Layout.{littleEndian, statesOf, edgesOf, setsOf}
@@ -43,12 +44,12 @@ module _ (b out : List ℕ) where
     unfolding refusalOf translateLines
     short-output h = refused-says ShortOutput (rw (o, lt-ltb (length out) (sizeOf b) h))
 
-    pub translated : sizeOf b ≤ length out → (size : ℕ) → size ≡ sizeOf b → (out′ : List ℕ) → out′ ≡ placed 0 (fileOf b) out → WellFormed b
+    pub translated : sizeOf b ≤ length out → (size : ℕ) → size ≡ sizeOf b → (out′ : List ℕ) → out′ ≡ placed 0 (fileOf liveFlag b) out → WellFormed b
         → TranslateSays b out (Written size) out′
     unfolding TranslateSays refusalOf translateLines placed
     translated h size e out′ d f =
-        let l : 0 + length (fileOf b) ≡ sizeOf b = omega (arith, length-file b f) in
-        rw (o, le-ltb (length out) (sizeOf b) h) (ap Written e, d ∙ ap (λ (k : ℕ). fileOf b ++ drop k out) l)
+        let l : 0 + length (fileOf liveFlag b) ≡ sizeOf b = omega (arith, length-file liveFlag b f) in
+        rw (o, le-ltb (length out) (sizeOf b) h) (ap Written e, d ∙ ap (λ (k : ℕ). fileOf liveFlag b ++ drop k out) l)
 
 -- its line stands in the list's order, after the table's, and the first that is given is the refusal
 pub translate-by-the-list : (b out : List ℕ) → ByTheList b (translateLines (sizeOf b) out) (refusalOf b out)
@@ -77,9 +78,6 @@ pub record Counted (b : List ℕ) (S E : ℕ) : Type 0 where
   pub edges-are : E ≡ edgeCount (statesOf b) (edgesOf b) (setsOf b)
 
 module _ {b : List ℕ} {S E : ℕ} (k : Counted b S E) where
-  targets-are : startOfRow b S ≡ E
-  targets-are = ap (startOfRow b) (k .slots-are) ∙ all-targets b (k .formed) ∙ sym (k .edges-are)
-
   pub size-is : 32 + 4 * S + 4 * E + S ≡ sizeOf b
   size-is = omega (arith, k .slots-are, k .edges-are)
 
@@ -91,25 +89,30 @@ module _ {b : List ℕ} {S E : ℕ} (k : Counted b S E) where
         omega (arith, k .edges-are, edges-small (statesOf b) (edgesOf b) (setsOf b) (f .states-to) (f .edges-to) (omega (arith, f .sets-to))),
       )
 
+-- the parts, by any flag R
+module _ (R : Flag) {b : List ℕ} {S E : ℕ} (k : Counted b S E) where
+  targets-are : startOfRow R b S ≡ E
+  targets-are = ap (startOfRow R b) (k .slots-are) ∙ all-targets R b (k .formed) ∙ sym (k .edges-are)
+
   module _ (out : List ℕ) (room : 32 + 4 * S + 4 * E + S ≤ length out) where
     abbrev header : List ℕ
     header = littleEndian (headerOf S E)
 
     abbrev rows : List ℕ
-    rows = littleEndian (listed (startOfRow b) (suc S))
+    rows = littleEndian (listed (startOfRow R b) (suc S))
 
     abbrev targets : List ℕ
-    targets = littleEndian (targetsTo b S)
+    targets = littleEndian (targetsTo R b S)
 
     abbrev marks : List ℕ
-    marks = listed (slotMark b) S
+    marks = listed (slotMark R b) S
 
     -- how long they are
     rows-length : length (header ++ rows) ≡ 32 + 4 * S
-    rows-length = length-append header rows ∙ omega (arith, length-little (listed (startOfRow b) (suc S)), length-listed (startOfRow b) (suc S))
+    rows-length = length-append header rows ∙ omega (arith, length-little (listed (startOfRow R b) (suc S)), length-listed (startOfRow R b) (suc S))
 
     targets-length : length (header ++ rows ++ targets) ≡ 32 + 4 * S + 4 * E
-    targets-length = length-append (header ++ rows) targets ∙ omega (arith, rows-length, length-little (targetsTo b S), targets-are)
+    targets-length = length-append (header ++ rows) targets ∙ omega (arith, rows-length, length-little (targetsTo R b S), targets-are)
 
     -- the header is written; there is room for the row starts
     module _ {w : List ℕ} (p : w ≡ placed 0 header out) where
@@ -118,18 +121,18 @@ module _ {b : List ℕ} {S E : ℕ} (k : Counted b S E) where
 
       pub rows-there : {r : List ℕ} → r ≡ rows → take 28 w ++ (r ++ drop (32 + 4 * S - 28) (drop 28 w)) ≡ placed 0 (header ++ rows) out
       rows-there e =
-          rw e (part-on 28 (32 + 4 * S) header rows out p refl (omega (arith, length-little (listed (startOfRow b) (suc S)), length-listed (startOfRow b) (suc S))) (omega arith) (omega arith))
+          rw e (part-on 28 (32 + 4 * S) header rows out p refl (omega (arith, length-little (listed (startOfRow R b) (suc S)), length-listed (startOfRow R b) (suc S))) (omega arith) (omega arith))
 
     -- then for the targets
     module _ {w : List ℕ} (p : w ≡ placed 0 (header ++ rows) out) where
-      pub targets-room : length (take (32 + 4 * S + 4 * E - (32 + 4 * S)) (drop (32 + 4 * S) w)) ≡ 4 * startOfRow b S
+      pub targets-room : length (take (32 + 4 * S + 4 * E - (32 + 4 * S)) (drop (32 + 4 * S) w)) ≡ 4 * startOfRow R b S
       targets-room =
           part-length (32 + 4 * S) (32 + 4 * S + 4 * E) w (omega arith) (rw p (omega (arith, length-placed 0 (header ++ rows) out (omega (arith, rows-length))))) ∙ omega (arith, targets-are)
 
       pub targets-there : {g : List ℕ} → g ≡ targets
           → take (32 + 4 * S) w ++ (g ++ drop (32 + 4 * S + 4 * E - (32 + 4 * S)) (drop (32 + 4 * S) w)) ≡ placed 0 (header ++ rows ++ targets) out
       targets-there e =
-          rw e (part-on (32 + 4 * S) (32 + 4 * S + 4 * E) (header ++ rows) targets out p rows-length (omega (arith, length-little (targetsTo b S), targets-are)) (omega arith) (omega arith))
+          rw e (part-on (32 + 4 * S) (32 + 4 * S + 4 * E) (header ++ rows) targets out p rows-length (omega (arith, length-little (targetsTo R b S), targets-are)) (omega arith) (omega arith))
 
     -- then for the marks, and that is the file
     module _ {w : List ℕ} (p : w ≡ placed 0 (header ++ rows ++ targets) out) where
@@ -139,11 +142,11 @@ module _ {b : List ℕ} {S E : ℕ} (k : Counted b S E) where
           ∙ omega arith
 
       pub marks-there : {m : List ℕ} → m ≡ marks
-          → take (32 + 4 * S + 4 * E) w ++ (m ++ drop (32 + 4 * S + 4 * E + S - (32 + 4 * S + 4 * E)) (drop (32 + 4 * S + 4 * E) w)) ≡ placed 0 (fileOf b) out
+          → take (32 + 4 * S + 4 * E) w ++ (m ++ drop (32 + 4 * S + 4 * E + S - (32 + 4 * S + 4 * E)) (drop (32 + 4 * S + 4 * E) w)) ≡ placed 0 (fileOf R b) out
       unfolding fileOf
       marks-there e =
           let there =
-          part-on (32 + 4 * S + 4 * E) (32 + 4 * S + 4 * E + S) (header ++ rows ++ targets) marks out p targets-length (omega (arith, length-listed (slotMark b) S)) (omega arith) room in
+          part-on (32 + 4 * S + 4 * E) (32 + 4 * S + 4 * E + S) (header ++ rows ++ targets) marks out p targets-length (omega (arith, length-listed (slotMark R b) S)) (omega arith) room in
           rw e there
           ∙ ap (λ (E : ℕ). placed 0 (littleEndian (headerOf S E) ++ rows ++ targets ++ marks) out) (sym targets-are)
           ∙ rw (k .slots-are)

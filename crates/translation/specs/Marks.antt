@@ -1,5 +1,5 @@
 -- The marks of the translated file: start, goal and bad are the record's. docs/RULES.md, "Translated table": bit 0 start, bit 1 the goal mark of s,
--- bit 6 bad. Assumes nothing.
+-- bit 6 bad. By any flag R. Assumes nothing.
 use mathlib.Core.Path.{_≡_, refl, sym, ap, ap₂, _∙_}
 use mathlib.Core.Bool.{Bool, true, false, _&&_, true≢false}
 use mathlib.Core.Logic.{_↔_}
@@ -12,7 +12,7 @@ use lib.ListN.{List·getD-eq-default}
 use borrow.Author.Tests.{eqb-true, eq-eqb}
 use Rattle.order.specs.Tests.{both}
 use Rattle.recorder.specs.Block.{Sound}
-use Rattle.recorder.specs.Flag.{liveFlag}
+use Rattle.recorder.specs.Flag.{Flag}
 use Rattle.recorder.specs.Recorder.{startOf, badOf}
 use Rattle.recorder.specs.Slots.{bitOf}
 use Rattle.recorder.specs.SlotGraph.{at, slot, at-start}
@@ -71,26 +71,27 @@ unfolding blockOf
 goal-is c p = refl
 
 -- the test of a start
-is-start : (b : List ℕ) (p : ℕ) → isStart b p ≡ true → graphOf b .Start p
+is-start : (R : Flag) (b : List ℕ) (p : ℕ) → isStart R b p ≡ true → graphOf R b .Start p
 unfolding isStart
-is-start b p e = let (h, d) = both _ _ e in (stateOf b p, h, eqb-true _ _ d)
+is-start R b p e = let (h, d) = both _ _ e in (stateOf b p, h, eqb-true _ _ d)
 
-start-is-start : (b : List ℕ) (p s : ℕ) → stateOf b p ≡ s → blockOf b .start s ≡ true → p ≡ slot (blockOf b) (startOf liveFlag (blockOf b) s) → isStart b p ≡ true
+start-is-start : (R : Flag) (b : List ℕ) (p s : ℕ) → stateOf b p ≡ s → blockOf b .start s ≡ true → p ≡ slot (blockOf b) (startOf R (blockOf b) s) → isStart R b p ≡ true
 unfolding isStart
-start-is-start b p s a h d = ap (λ (s : ℕ). blockOf b .start s && eqb p (slot (blockOf b) (startOf liveFlag (blockOf b) s))) a ∙ ap₂ _&&_ h (eq-eqb _ _ d)
+start-is-start R b p s a h d = ap (λ (s : ℕ). blockOf b .start s && eqb p (slot (blockOf b) (startOf R (blockOf b) s))) a ∙ ap₂ _&&_ h (eq-eqb _ _ d)
 
 -- the slot of a start record is a slot
-pub start-slot : (b : List ℕ) (f : WellFormed b) (s : ℕ) → blockOf b .start s ≡ true → slot (blockOf b) (startOf liveFlag (blockOf b) s) < slotsOf b
-start-slot b f s h = start-below b s (omega (arith, block-states b, sound b f .start-in s h))
+pub start-slot : (R : Flag) (b : List ℕ) (f : WellFormed b) (s : ℕ) → blockOf b .start s ≡ true
+    → slot (blockOf b) (startOf R (blockOf b) s) < slotsOf b
+start-slot R b f s h = start-below R b s (omega (arith, block-states b, sound b f .start-in s h))
 
-module _ (b : List ℕ) (f : WellFormed b) where
+module _ (R : Flag) (b : List ℕ) (f : WellFormed b) where
   abbrev F : List ℕ
-  F = fileOf b
+  F = fileOf R b
 
   -- past the last slot there are no marks: the bytes end
   no-mark : (p : ℕ) → slotsOf b ≤ p → mark F p ≡ 0
   unfolding mark
-  no-mark p h = List·getD-eq-default F 0 (omega (arith, length-file b f, all-targets b f, states-read b f, edges-read b f))
+  no-mark p h = List·getD-eq-default F 0 (omega (arith, length-file R b f, all-targets R b f, states-read R b f, edges-read R b f))
 
   module _ (p : ℕ) (p-in : p < slotsOf b) where
     abbrev goal : Bool
@@ -99,36 +100,36 @@ module _ (b : List ℕ) (f : WellFormed b) where
     abbrev bad : Bool
     bad = badOf (blockOf b) (at (blockOf b) p)
 
-    bits : mark F p ≡ bitOf (isStart b p) + 2 * bitOf goal + 64 * bitOf bad
+    bits : mark F p ≡ bitOf (isStart R b p) + 2 * bitOf goal + 64 * bitOf bad
     unfolding slotMark
-    bits = mark-read b f p p-in
+    bits = mark-read R b f p p-in
 
-    pub start-mark : blockOf F .start p ≡ isStart b p
-    start-mark = start-is F p ∙ ap (λ (x : ℕ). eqb (x % 2) 1) bits ∙ bit-zero (isStart b p) goal bad
+    pub start-mark : blockOf F .start p ≡ isStart R b p
+    start-mark = start-is F p ∙ ap (λ (x : ℕ). eqb (x % 2) 1) bits ∙ bit-zero (isStart R b p) goal bad
 
     pub goal-mark : blockOf F .goal p ≡ blockOf b .goal (stateOf b p)
-    goal-mark = goal-is F p ∙ ap (λ (x : ℕ). eqb (x / 2 % 2) 1) bits ∙ bit-one (isStart b p) goal bad
+    goal-mark = goal-is F p ∙ ap (λ (x : ℕ). eqb (x / 2 % 2) 1) bits ∙ bit-one (isStart R b p) goal bad
 
     pub bad-mark : badIn F p ≡ badOf (blockOf b) (at (blockOf b) p)
     unfolding badIn
-    bad-mark = ap (λ (x : ℕ). eqb (x / 64 % 2) 1) bits ∙ bit-six (isStart b p) goal bad
+    bad-mark = ap (λ (x : ℕ). eqb (x / 64 % 2) 1) bits ∙ bit-six (isStart R b p) goal bad
 
   -- a slot is a start of the file exactly if it is one of the slot graph
-  pub start-read : (p : ℕ) → (blockOf F .start p ≡ true) ↔ graphOf b .Start p
+  pub start-read : (p : ℕ) → (blockOf F .start p ≡ true) ↔ graphOf R b .Start p
   start-read p = (to, from)
     where
       ok : Sound (blockOf b)
       ok = sound b f
 
-      to : blockOf F .start p ≡ true → graphOf b .Start p
+      to : blockOf F .start p ≡ true → graphOf R b .Start p
       to e = go (decLt p (slotsOf b))
         where
-          go : Dec (p < slotsOf b) → graphOf b .Start p
-          go (yes l) = is-start b p (sym (start-mark p l) ∙ e)
+          go : Dec (p < slotsOf b) → graphOf R b .Start p
+          go (yes l) = is-start R b p (sym (start-mark p l) ∙ e)
           go (no l) = absurd (true≢false (sym e ∙ start-is F p ∙ ap (λ (x : ℕ). eqb (x % 2) 1) (no-mark p (omega arith))))
 
-      from : graphOf b .Start p → blockOf F .start p ≡ true
+      from : graphOf R b .Start p → blockOf F .start p ≡ true
       from (s, h, d) =
-          let a : stateOf b p ≡ s = ap (stateOf b) d ∙ ap (λ (r : Record). r .s) (at-start liveFlag (blockOf b) ok s h) in
-          let l : p < slotsOf b = rw d (start-slot b f s h) in
-          start-mark p l ∙ start-is-start b p s a h d
+          let a : stateOf b p ≡ s = ap (stateOf b) d ∙ ap (λ (r : Record). r .s) (at-start R (blockOf b) ok s h) in
+          let l : p < slotsOf b = rw d (start-slot R b f s h) in
+          start-mark p l ∙ start-is-start R b p s a h d

@@ -3,6 +3,7 @@
 use mathlib.Core.Path.{_≡_, refl}
 use mathlib.Core.List.{List, [], _∷_, _++_}
 use Prim.Native.Nat.{ℕ}
+use Rattle.recorder.specs.Flag.{liveFlag}
 use Rattle.recorder.specs.Slots.{slotCount, slotOf, recordOfSlot}
 use Rattle.table.specs.First.{firstFrom, firstIn}
 use Rattle.table.specs.Layout.{littleEndian, wordAt, rowStart, target, mark}
@@ -13,6 +14,7 @@ use Rattle.translation.specs.File.{alongFrom, rowOf, targetsTo, listed, 
 tableC : List ℕ
 tableC = littleEndian (1 ∷ 1 ∷ 1 ∷ 0 ∷ 28 ∷ 36 ∷ 40 ∷ 0 ∷ 1 ∷ 0 ∷ []) ++ (1 ∷ [])
 
-file-of-c : fileOf tableC ≡ littleEndian (2 ∷ 4 ∷ 6 ∷ 0 ∷ 28 ∷ 48 ∷ 72 ∷ 0 ∷ 1 ∷ 2 ∷ 4 ∷ 6 ∷ 0 ∷ 1 ∷ 0 ∷ 2 ∷ 1 ∷ 3 ∷ []) ++ (64 ∷ 0 ∷ 1 ∷ 0 ∷ [])
+file-of-c : fileOf liveFlag tableC
+    ≡ littleEndian (2 ∷ 4 ∷ 6 ∷ 0 ∷ 28 ∷ 48 ∷ 72 ∷ 0 ∷ 1 ∷ 2 ∷ 4 ∷ 6 ∷ 0 ∷ 1 ∷ 0 ∷ 2 ∷ 1 ∷ 3 ∷ []) ++ (64 ∷ 0 ∷ 1 ∷ 0 ∷ [])
 unfolding fileOf listed targetsTo rowOf alongFrom isStart slotMark wordAt rowStart target mark blockOf edgeAt slotCount slotOf recordOfSlot firstFrom firstIn tableC
 file-of-c = refl

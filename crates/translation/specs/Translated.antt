@@ -6,6 +6,7 @@ use mathlib.Core.Option.{Option, none, some}
 use Prim.Native.Nat.{ℕ}
 use lib.Dec.{ltb}
 use lib.ListN.{length, drop}
+use Rattle.recorder.specs.Flag.{liveFlag}
 use Rattle.table.specs.Layout.{statesOf, edgesOf, setsOf}
 use Rattle.table.specs.Open.{refusalFor, openOf}
 use Rattle.table.specs.Given.{given}
@@ -32,7 +33,7 @@ refusalOf b out = refusalFor (openOf b) (translateLines (sizeOf b) out)
 -- stays; the answer is that number.
 abbrev pub TranslateFor : Option Refusal → List ℕ → List ℕ → Answer → List ℕ → Type 0
 TranslateFor (some why) b out a out′ = (a ≡ Refused why) × (out′ ≡ out)
-TranslateFor none b out a out′ = (a ≡ Written (sizeOf b)) × (out′ ≡ fileOf b ++ drop (sizeOf b) out)
+TranslateFor none b out a out′ = (a ≡ Written (sizeOf b)) × (out′ ≡ fileOf liveFlag b ++ drop (sizeOf b) out)
 
 -- translating the bytes b into the output answers a and leaves the output as out′
 unfoldable pub TranslateSays : List ℕ → List ℕ → Answer → List ℕ → Type 0

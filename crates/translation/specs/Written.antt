@@ -10,6 +10,7 @@ use borrow.Author.Tests.{ltb-false}
 use lib.Dec.{ltb}
 use lib.ListN.{length, take, drop}
 use lib.Seq.{take-at}
+use Rattle.recorder.specs.Flag.{liveFlag}
 use Rattle.table.specs.Open.{openOf}
 use Rattle.table.specs.Given.{given, firstGiven}
 use Rattle.table.specs.WellFormed.{WellFormed, well-formed}
@@ -20,7 +21,7 @@ use Rattle.table.specs.declared.refusal.Refusal.the-variants.{ShortOutput}
 use Rattle.translation.specs.File.{fileOf}
 use Rattle.translation.specs.Counts.{length-file}
 use Rattle.translation.specs.Placed.{placed}
-use Rattle.translation.specs.Demand3.{Translates, translates}
+use Rattle.translation.specs.Demand3.{Translates, translates-live}
 use Rattle.translation.specs.Translated.{sizeOf, translateLines, refusalOf, TranslateFor, TranslateSays}
 use Rattle.translation.specs.declared.Answer.the-variants.{Written, Refused}
 
@@ -39,9 +40,9 @@ module _ (b out : List ℕ) (size : ℕ) (out′ : List ℕ) where
   pub record WrittenSays : Type 0 where
     pub sound : WellFormed b
     pub given : refusalOf b out ≡ none
-    pub size-is : size ≡ length (fileOf b)
+    pub size-is : size ≡ length (fileOf liveFlag b)
     pub room : size ≤ length out
-    pub has : out′ ≡ placed 0 (fileOf b) out
+    pub has : out′ ≡ placed 0 (fileOf liveFlag b) out
 
   pub written-says : TranslateSays b out (Written size) out′ → WrittenSays
   unfolding TranslateSays refusalOf translateLines placed
@@ -52,9 +53,9 @@ module _ (b out : List ℕ) (size : ℕ) (out′ : List ℕ) where
       lines f true e r (w, d) = absurd (refused-not-written ShortOutput size w)
       lines f false e r (w, d) =
           let l : size ≡ sizeOf b = same-size size (sizeOf b) w in
-          let k = length-file b f in
-          let z : sizeOf b ≡ 0 + length (fileOf b) = omega arith in
-          record { sound = f; given = r; size-is = l ∙ sym k; room = omega (arith, ltb-false (length out) (sizeOf b) e); has = d ∙ ap (λ (k : ℕ). fileOf b ++ drop k out) z }
+          let k = length-file liveFlag b f in
+          let z : sizeOf b ≡ 0 + length (fileOf liveFlag b) = omega arith in
+          record { sound = f; given = r; size-is = l ∙ sym k; room = omega (arith, ltb-false (length out) (sizeOf b) e); has = d ∙ ap (λ (k : ℕ). fileOf liveFlag b ++ drop k out) z }
 
       go : (x : Opened) → openOf b ≡ x → TranslateSays b out (Written size) out′ → WrittenSays
       go (TableRefused why) o h = absurd (refused-not-written why size ((rw o at h) .0))
@@ -65,8 +66,9 @@ module _ (b out : List ℕ) (size : ℕ) (out′ : List ℕ) where
   written-translates h =
       let s = written-says h in
       let l = s .size-is in
-      let is : take size out′ ≡ fileOf b = ap (take size) (s .has) ∙ take-at (fileOf b) (drop (0 + length (fileOf b)) out) size (sym l) in
-      rw is (translates b (s .sound))
+      let file = fileOf liveFlag b in
+      let is : take size out′ ≡ file = ap (take size) (s .has) ∙ take-at file (drop (0 + length file) out) size (sym l) in
+      rw is (translates-live b (s .sound))
 
 -- a refusal leaves the output as it was
 pub refused-leaves : (b out : List ℕ) (why : Refusal) (out′ : List ℕ) → TranslateSays b out (Refused why) out′ → (refusalOf b out ≡ some why) × (out′ ≡ out)

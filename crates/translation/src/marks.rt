@@ -2,6 +2,7 @@
 ghost use mathlib.Core.Path.{_≡_};
 ghost use Prim.Native.Nat.{_<_};
 ghost use lib.ListN.{length};
+ghost use Rattle.recorder.specs.Flag.{liveFlag};
 ghost use Rattle.translation.specs.File.{listed, slotMark};
 ghost use Rattle.translation.specs.Asks.{Asks, RecordAt};
 use recorder::Record;
@@ -11,7 +12,7 @@ use table::Table;
 fn mark(bytes: &[u8], t: Table, slots: usize, p: usize, r: Record) -> u8
     requires { ⌜ Asks (now bytes) t slots ⌝ }
     requires { ⌜ (p < slots) × RecordAt t p r ⌝ }
-    ensures { λ x. ⌜ x ≡ slotMark (now (bytes .entry)) p ⌝ }
+    ensures { λ x. ⌜ x ≡ slotMark liveFlag (now (bytes .entry)) p ⌝ }
 {
     let n = t.states;
     let m = t.sets;
@@ -28,7 +29,7 @@ fn mark(bytes: &[u8], t: Table, slots: usize, p: usize, r: Record) -> u8
 pub(crate) fn write_marks(bytes: &[u8], t: Table, part: &mut [u8], slots: usize)
     requires { ⌜ Asks (now bytes) t slots ⌝ }
     requires { ⌜ length (now part) ≡ slots ⌝ }
-    ensures { λ _. ⌜ now (part .exit) ≡ listed (slotMark (now (bytes .entry))) slots ⌝ }
+    ensures { λ _. ⌜ now (part .exit) ≡ listed (slotMark liveFlag (now (bytes .entry))) slots ⌝ }
 {
     let n = t.states;
     let m = t.sets;

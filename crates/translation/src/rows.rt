@@ -2,6 +2,7 @@
 ghost use mathlib.Core.Path.{_≡_};
 ghost use Prim.Native.Nat.{suc, _*_, _<_};
 ghost use lib.ListN.{length};
+ghost use Rattle.recorder.specs.Flag.{liveFlag};
 ghost use Rattle.table.specs.Layout.{littleEndian};
 ghost use Rattle.translation.specs.File.{rowOf, listed, startOfRow};
 ghost use Rattle.translation.specs.Asks.{Asks, RecordAt};
@@ -13,7 +14,7 @@ use table::Table;
 fn row_length(bytes: &[u8], t: Table, slots: usize, p: usize, r: Record) -> usize
     requires { ⌜ Asks (now bytes) t slots ⌝ }
     requires { ⌜ (p < slots) × RecordAt t p r ⌝ }
-    ensures { λ x. ⌜ x ≡ length (rowOf (now (bytes .entry)) p) ⌝ }
+    ensures { λ x. ⌜ x ≡ length (rowOf liveFlag (now (bytes .entry)) p) ⌝ }
 {
     let n = t.states;
     let s = r.s;
@@ -26,7 +27,7 @@ fn row_length(bytes: &[u8], t: Table, slots: usize, p: usize, r: Record) -> usiz
 pub(crate) fn write_rows(bytes: &[u8], t: Table, part: &mut [u8], slots: usize)
     requires { ⌜ Asks (now bytes) t slots ⌝ }
     requires { ⌜ length (now part) ≡ 4 * suc slots ⌝ }
-    ensures { λ _. ⌜ now (part .exit) ≡ littleEndian (listed (startOfRow (now (bytes .entry))) (suc slots)) ⌝ }
+    ensures { λ _. ⌜ now (part .exit) ≡ littleEndian (listed (startOfRow liveFlag (now (bytes .entry))) (suc slots)) ⌝ }
 {
     let n = t.states;
     let m = t.sets;

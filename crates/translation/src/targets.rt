@@ -4,6 +4,7 @@ ghost use mathlib.Core.Bool.{cond};
 ghost use mathlib.Core.List.{[], _∷_};
 ghost use Prim.Native.Nat.{_+_, _*_, _≤_, _<_};
 ghost use lib.ListN.{length};
+ghost use Rattle.recorder.specs.Flag.{liveFlag};
 ghost use Rattle.table.specs.Layout.{littleEndian};
 ghost use Rattle.translation.specs.File.{rowOf, targetsTo, startOfRow};
 ghost use Rattle.translation.specs.Asks.{Asks, RecordAt};
@@ -39,9 +40,9 @@ fn write_row(
 ) -> usize
     requires { ⌜ Asks (now bytes) t slots ⌝ }
     requires { ⌜ (p < slots) × RecordAt t p r ⌝ }
-    requires { ⌜ at + 4 * length (rowOf (now bytes) p) ≤ length (now part) ⌝ }
-    ensures { λ x. ⌜ x ≡ at + 4 * length (rowOf (now (bytes .entry)) p) ⌝ }
-    ensures { λ _. ⌜ now (part .exit) ≡ placed at (littleEndian (rowOf (now (bytes .entry)) p)) (now (part .entry)) ⌝ }
+    requires { ⌜ at + 4 * length (rowOf liveFlag (now bytes) p) ≤ length (now part) ⌝ }
+    ensures { λ x. ⌜ x ≡ at + 4 * length (rowOf liveFlag (now (bytes .entry)) p) ⌝ }
+    ensures { λ _. ⌜ now (part .exit) ≡ placed at (littleEndian (rowOf liveFlag (now (bytes .entry)) p)) (now (part .entry)) ⌝ }
 {
     let n = t.states;
     let m = t.sets;
@@ -69,8 +70,8 @@ fn write_row(
 // Writes the rows of all slots.
 pub(crate) fn write_targets(bytes: &[u8], t: Table, part: &mut [u8], slots: usize)
     requires { ⌜ Asks (now bytes) t slots ⌝ }
-    requires { ⌜ length (now part) ≡ 4 * startOfRow (now bytes) slots ⌝ }
-    ensures { λ _. ⌜ now (part .exit) ≡ littleEndian (targetsTo (now (bytes .entry)) slots) ⌝ }
+    requires { ⌜ length (now part) ≡ 4 * startOfRow liveFlag (now bytes) slots ⌝ }
+    ensures { λ _. ⌜ now (part .exit) ≡ littleEndian (targetsTo liveFlag (now (bytes .entry)) slots) ⌝ }
 {
     let n = t.states;
     let m = t.sets;

@@ -6,6 +6,7 @@ use native.Mathlib.Omega.{arith}
 use lib.ListN.{length, drop}
 use denote.Ref.{now}
 use borrow.Author.Needs.{needs}
+use Rattle.recorder.specs.Flag.{liveFlag}
 use Rattle.recorder.specs.Slots.{slotCount}
 use Rattle.table.specs.Recording.{slots-few}
 use Rattle.search.specs.Buffers.{cleared}
@@ -43,13 +44,13 @@ scan-of c = c .before .before .before .before .before
 abbrev clear-at : tie.After-known-told → tie.After-clear
 clear-at c = clear-of (starts-of (scan-of c))
 
-stopped : (c : tie.After-known-told) → Stopped (now (clear-at c .before .before .before .before .before .args .bytes)) (clear-at c .before .before .before .before .before .args .slots)
+stopped : (c : tie.After-known-told) → Stopped liveFlag (now (clear-at c .before .before .before .before .before .args .bytes)) (clear-at c .before .before .before .before .before .args .slots)
     (scan-of c .scan .last .1 .1 .0) (c .before .seen .given .0 .0) (c .before .seen .given .0 .1 .0)
 stopped c = seen-as (c .before .seen .given .1) (scan-of c .scan .ensures) .seen
 
-told : (c : tie.After-known-told) → Told (now (clear-at c .before .before .before .before .before .args .bytes))
+told : (c : tie.After-known-told) → Told liveFlag (now (clear-at c .before .before .before .before .before .args .bytes))
     (pathBy (labelOf (clear-at c .before .before .before .before .before .args .t .states) (clear-at c .before .before .before .before .before .args .t .sets)) (clear-at c .before .before .before .before .before .args .slots) (scan-of c .scan .last .1 .1 .0) (c .before .seen .given .0 .0))
-told c = let a = asks (clear-at c) in stopped-tells _ _ _ _ _ _ _ (a .formed) (a .laid .states-are) (a .laid .sets-are) (stopped c)
+told c = let a = asks (clear-at c) in stopped-tells liveFlag _ _ _ _ _ _ _ (a .formed) (a .laid .states-are) (a .laid .sets-are) (stopped c)
 
 -- and the path to it measured and written
 abbrev known-of : tie.After-write-path → tie.After-known-told

@@ -8,6 +8,7 @@ use lib.ListN.{length, take, drop}
 use lib.Seq.{length-take-le}
 use denote.Ref.{now}
 use borrow.Author.Needs.{needs}
+use Rattle.recorder.specs.Flag.{liveFlag}
 use Rattle.recorder.specs.Slots.{slotCount}
 use Rattle.table.specs.Layout.{littleEndian}
 use Rattle.table.specs.Open.{openOf}
@@ -75,20 +76,20 @@ room : (c : tie.After-write-header) → 32 + 4 * S (headed c) + 4 * E (headed c)
 room c = omega (arith, c .before .before .if1 .left)
 
 is₁ : (c : tie.After-write-header) → out₁ c ≡ placed 0 (header (headed c)) (out (headed c))
-is₁ c = let d = headed c in header-there (counted d) (out d) (room c) (c .write-header .ensures)
+is₁ c = let d = headed c in header-there liveFlag (counted d) (out d) (room c) (c .write-header .ensures)
 
 -- with the row starts
 abbrev first : tie.After-write-rows → tie.After-write-header
 first c = c .before .before .before .before
 
 abbrev rows : tie.After-edge-count → List ℕ
-rows c = littleEndian (listed (startOfRow (b (taken c))) (suc (S c)))
+rows c = littleEndian (listed (startOfRow liveFlag (b (taken c))) (suc (S c)))
 
 abbrev out₂ : tie.After-write-rows → List ℕ
 out₂ c = let T = 32 + 4 * S (headed (first c)) in take 28 (out₁ (first c)) ++ (c .write-rows .last .1 .1 .0 ++ drop (T - 28) (drop 28 (out₁ (first c))))
 
 is₂ : (c : tie.After-write-rows) → out₂ c ≡ placed 0 (header (headed (first c)) ++ rows (headed (first c))) (out (headed (first c)))
-is₂ c = let d = headed (first c) in rows-there (counted d) (out d) (room (first c)) (is₁ (first c)) (c .write-rows .ensures)
+is₂ c = let d = headed (first c) in rows-there liveFlag (counted d) (out d) (room (first c)) (is₁ (first c)) (c .write-rows .ensures)
 
 -- with the targets
 abbrev second : tie.After-write-targets → tie.After-write-rows
@@ -103,8 +104,8 @@ out₃ c =
     let M = T + 4 * E (counts c) in
     take T (out₂ (second c)) ++ (c .write-targets .last .1 .1 .0 ++ drop (M - T) (drop T (out₂ (second c))))
 
-is₃ : (c : tie.After-write-targets) → out₃ c ≡ placed 0 (header (counts c) ++ rows (counts c) ++ littleEndian (targetsTo (b (taken (counts c))) (S (counts c)))) (out (counts c))
-is₃ c = let d = counts c in targets-there (counted d) (out d) (room (first (second c))) (is₂ (second c)) (c .write-targets .ensures)
+is₃ : (c : tie.After-write-targets) → out₃ c ≡ placed 0 (header (counts c) ++ rows (counts c) ++ littleEndian (targetsTo liveFlag (b (taken (counts c))) (S (counts c)))) (out (counts c))
+is₃ c = let d = counts c in targets-there liveFlag (counted d) (out d) (room (first (second c))) (is₂ (second c)) (c .write-targets .ensures)
 
 open-requires : tie.Need-open-requires
 open-requires c κs = search needs
@@ -167,7 +168,7 @@ part-write-rows-end : tie.Need-part-write-rows-end
 part-write-rows-end c = search needs
 
 write-rows-requires : tie.Need-write-rows-requires
-write-rows-requires c κs = let k = c .before .before .before in let d = headed k in (asks d, rows-room (counted d) (out d) (room k) (is₁ k))
+write-rows-requires c κs = let k = c .before .before .before in let d = headed k in (asks d, rows-room liveFlag (counted d) (out d) (room k) (is₁ k))
 
 sub-write-targets : tie.Need-sub-write-targets
 sub-write-targets c = search needs
@@ -179,7 +180,7 @@ part-write-targets-end : tie.Need-part-write-targets-end
 part-write-targets-end c = search needs
 
 write-targets-requires : tie.Need-write-targets-requires
-write-targets-requires c κs = let k = c .before .before .before in let d = headed (first k) in (asks d, targets-room (counted d) (out d) (room (first k)) (is₂ k))
+write-targets-requires c κs = let k = c .before .before .before in let d = headed (first k) in (asks d, targets-room liveFlag (counted d) (out d) (room (first k)) (is₂ k))
 
 sub-write-marks : tie.Need-sub-write-marks
 sub-write-marks c = search needs
@@ -191,7 +192,7 @@ part-write-marks-end : tie.Need-part-write-marks-end
 part-write-marks-end c = search needs
 
 write-marks-requires : tie.Need-write-marks-requires
-write-marks-requires c κs = let k = c .before .before .before in let d = counts k in (asks d, marks-room (counted d) (out d) (room (first (second k))) (is₃ k))
+write-marks-requires c κs = let k = c .before .before .before in let d = counts k in (asks d, marks-room liveFlag (counted d) (out d) (room (first (second k))) (is₃ k))
 
 same-length : tie.Need-same-length
 same-length c = search needs
@@ -203,7 +204,7 @@ returns-3 c =
     let d = counts k in
     let z = size-is (counted d) in
     let r = room (first (second k)) in
-    translated _ (out d) _ (opened (taken d)) (omega arith) _ z _ (marks-there (counted d) (out d) r (is₃ k) (m .write-marks .ensures)) (formed (taken d))
+    translated _ (out d) _ (opened (taken d)) (omega arith) _ z _ (marks-there liveFlag (counted d) (out d) r (is₃ k) (m .write-marks .ensures)) (formed (taken d))
 
 pub translate-spec : {M : Type 1} → statement M
 translate-spec =

@@ -5,6 +5,7 @@ use mathlib.Core.Bool.{true, false}
 use Prim.Native.Nat.{_+_, _-_}
 use native.Mathlib.Numerals.{add-one}
 use native.Mathlib.Omega.{arith}
+use Rattle.recorder.specs.Flag.{liveFlag}
 use Rattle.table.specs.Inside.{row-inside, target-inside, mark-inside}
 use Rattle.search.specs.Meet.{rest-same, rest-trans, asks-as}
 use Rattle.table.specs.Row.{row-to}
@@ -56,7 +57,7 @@ loop-holds c =
     let b = bytes-at q in
     let v = q .before .queue .inv in
     record {
-      turned = rw (from-is c, ← x-slot q) (turned-begins b (asks q .formed) _ _ _ (v .kept) (v .between) (q .queue-test .taken));
+      turned = rw (from-is c, ← x-slot q) (turned-begins liveFlag b (asks q .formed) _ _ _ (v .kept) (v .between) (q .queue-test .taken));
       same = rest-same _ _;
       none = v .none;
     }
@@ -71,7 +72,7 @@ step-requires : tie.Need-step-requires Inv-loop μ-loop Inv-queue μ-queue
 step-requires c κs = tt
 
 slot-requires : tie.Need-slot-requires Inv-loop μ-loop Inv-queue μ-queue
-slot-requires c κs = let i = c .before .before in step-range _ _ (asks (queue-in i) .laid) _ _ true _ (saving-is c) (asks (queue-in i) .formed) (edge-at i)
+slot-requires c κs = let i = c .before .before in step-range liveFlag _ _ (asks (queue-in i) .laid) _ _ true _ (saving-is c) (asks (queue-in i) .formed) (edge-at i)
 
 is-bad-requires : tie.Need-is-bad-requires Inv-loop μ-loop Inv-queue μ-queue
 is-bad-requires c κs = omega (arith, asks (queue-in (c .before .before .before)) .laid .sets-to)
@@ -83,13 +84,13 @@ meet-requires : tie.Need-meet-requires Inv-loop μ-loop Inv-queue μ-queue
 meet-requires c κs =
     let i = row-of (c .before .before) in
     let q = queue-in i in
-    asks-as (asks q .slots-are) (y-is (c .before .before .before)) (first-asks _ (asks q .formed) _ _ _ _ _ (turned-at i) (below-to i))
+    asks-as (asks q .slots-are) (y-is (c .before .before .before)) (first-asks liveFlag _ (asks q .formed) _ _ _ _ _ (turned-at i) (below-to i))
 
 step-requires-2 : tie.Need-step-requires-2 Inv-loop μ-loop Inv-queue μ-queue
 step-requires-2 c κs = tt
 
 slot-requires-2 : tie.Need-slot-requires-2 Inv-loop μ-loop Inv-queue μ-queue
-slot-requires-2 c κs = let i = row-met (met-of c) in step-range _ _ (asks (queue-in i) .laid) _ _ false _ (plain-is c) (asks (queue-in i) .formed) (edge-at i)
+slot-requires-2 c κs = let i = row-met (met-of c) in step-range liveFlag _ _ (asks (queue-in i) .laid) _ _ false _ (plain-is c) (asks (queue-in i) .formed) (edge-at i)
 
 add-meet-if : tie.Need-add-meet-if Inv-loop μ-loop Inv-queue μ-queue
 add-meet-if c = let i = row-met (met-of (c .before .before)) in omega (arith, head-in (queue-in i), slots-few (bytes-at (queue-in i)) (asks (queue-in i) .formed), asks (queue-in i) .slots-are)
@@ -99,7 +100,7 @@ meet-if-requires c κs =
     let m = met-of (c .before .before) in
     let i = row-met m in
     let q = queue-in i in
-    asks-as (asks q .slots-are) (z-is (c .before)) (other-asks _ (asks q .formed) _ _ _ _ _ (turned-at i) (below-to i) (good-at (m .before .before)) _ _ (met-at m))
+    asks-as (asks q .slots-are) (z-is (c .before)) (other-asks liveFlag _ (asks q .formed) _ _ _ _ _ (turned-at i) (below-to i) (good-at (m .before .before)) _ _ (met-at m))
 
 add-i : tie.Need-add-i Inv-loop μ-loop Inv-queue μ-queue
 add-i c =
@@ -130,7 +131,7 @@ queue-again c =
     record {
       kept = v .turned .kept;
       same = rest-trans (q .before .queue .inv .same) (v .same);
-      between = rw (add-one (q .before .queue .head)) (turned-ends _ (asks q .formed) _ _ _ _ _ (v .turned) (omega (arith, c .loop-test .left, to-is (c .before .before), v .turned .to)));
+      between = rw (add-one (q .before .queue .head)) (turned-ends liveFlag _ (asks q .formed) _ _ _ _ _ (v .turned) (omega (arith, c .loop-test .left, to-is (c .before .before), v .turned .to)));
       none = v .none;
     }
 

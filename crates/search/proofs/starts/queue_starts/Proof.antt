@@ -18,7 +18,7 @@ use Rattle.search.proofs.starts.queue_starts.Tie as tie
 
 record Queueing (b w₀ w : List ℕ) (tail s : ℕ) : Type 0 where
   -- the states below s are dealt with
-  pub starting : Starting b w tail s
+  pub starting : Starting liveFlag b w tail s
   -- the words past the first 2S are as they came
   pub same : SameRest (slotsOf b) w₀ w
   pub to : s ≤ statesOf b
@@ -46,14 +46,14 @@ s-in c = omega (arith, c .loop-test .taken, asks c .laid .states-are)
 start-is : (c : tie.After-start Inv-loop μ-loop) → c .start .result ≡ startOf liveFlag (blockOf (bytes-at (c .before))) (c .before .before .loop .s)
 start-is c = c .start .ensures (blockOf (bytes-at (c .before))) (block-states (bytes-at (c .before)) ∙ sym (asks (c .before) .laid .states-are))
 
-slot-is : (c : tie.After-slot Inv-loop μ-loop) → c .slot .result ≡ startSlot (bytes-at (c .before .before)) (c .before .before .before .loop .s)
-slot-is c = made-slot _ _ (asks (c .before .before) .laid) _ _ (start-is (c .before)) _ (c .slot .ensures)
+slot-is : (c : tie.After-slot Inv-loop μ-loop) → c .slot .result ≡ startSlot liveFlag (bytes-at (c .before .before)) (c .before .before .before .loop .s)
+slot-is c = made-slot liveFlag _ _ (asks (c .before .before) .laid) _ _ (start-is (c .before)) _ (c .slot .ensures)
 
 loop-holds : tie.Need-loop-holds Inv-loop μ-loop
 loop-holds c =
     let p = c .before .before .pre in
     record {
-      starting = starting-begins _ _ (rw (← p .slots-are) (p .room)) (rw (← p .slots-are) (p .fresh));
+      starting = starting-begins liveFlag _ _ (rw (← p .slots-are) (p .room)) (rw (← p .slots-are) (p .fresh));
       same = rest-same _ _;
       to = zero-le;
     }
@@ -62,7 +62,7 @@ start-requires : tie.Need-start-requires Inv-loop μ-loop
 start-requires c κs = tt
 
 slot-requires : tie.Need-slot-requires Inv-loop μ-loop
-slot-requires c κs = made-range _ _ (asks (c .before) .laid) _ _ (start-is c) (c .before .loop-test .taken)
+slot-requires c κs = made-range liveFlag _ _ (asks (c .before) .laid) _ _ (start-is c) (c .before .loop-test .taken)
 
 is-start-requires : tie.Need-is-start-requires Inv-loop μ-loop
 is-start-requires c κs = mark-inside _ _ (asks (c .before .before) .laid) _ (c .before .before .loop-test .taken)
@@ -70,7 +70,7 @@ is-start-requires c κs = mark-inside _ _ (asks (c .before .before) .laid) _ (c 
 meet-if-requires : tie.Need-meet-if-requires Inv-loop μ-loop
 meet-if-requires c κs =
     let i = c .before .before .before .before in
-    asks-as (asks i .slots-are) (slot-is (c .before .before)) (start-asks _ (asks i .formed) _ _ _ (i .before .loop .inv .starting) (s-in i))
+    asks-as (asks i .slots-are) (slot-is (c .before .before)) (start-asks liveFlag _ (asks i .formed) _ _ _ (i .before .loop .inv .starting) (s-in i))
 
 add-s : tie.Need-add-s Inv-loop μ-loop
 add-s c = let i = c .before .before .before .before .before .before .before in omega (arith, i .loop-test .taken, asks i .laid .states-to)
@@ -85,8 +85,8 @@ loop-again c =
     let v = i .before .loop .inv in
     let m = if-says-as (k .before .before .is-start .ensures) (asks i .slots-are) (slot-is (k .before .before .before)) (k .meet-if .ensures) in
     record {
-      starting = starting-on _ (asks i .formed) _ _ _ (v .starting) _ _ (s-in i) m;
-      same = rest-trans (v .same) (meets-if (start-asks _ (asks i .formed) _ _ _ (v .starting) (s-in i)) m .same);
+      starting = starting-on liveFlag _ (asks i .formed) _ _ _ (v .starting) _ _ (s-in i) m;
+      same = rest-trans (v .same) (meets-if (start-asks liveFlag _ (asks i .formed) _ _ _ (v .starting) (s-in i)) m .same);
       to = omega (arith, s-in i);
     }
 
@@ -98,7 +98,7 @@ returns c =
     let p = c .before .before .before .before .pre in
     let v = c .before .loop .inv in
     let e : c .before .loop .s ≡ statesOf (now (c .before .before .before .before .args .bytes)) = omega (arith, v .to, c .loop-test .left, p .laid .states-are) in
-    rw (p .slots-are) (record { kept = v .starting .kept; same = v .same; between = starting-ends _ (p .formed) _ _ _ (v .starting) e })
+    rw (p .slots-are) (record { kept = v .starting .kept; same = v .same; between = starting-ends liveFlag _ (p .formed) _ _ _ (v .starting) e })
 
 pub queue-starts-spec : {M : Type 1} → statement M
 queue-starts-spec =

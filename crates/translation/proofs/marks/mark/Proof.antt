@@ -5,8 +5,9 @@ use native.Mathlib.Omega.{arith}
 use lib.Dec.{eqb}
 use mir.Val.{boolByte}
 use borrow.Author.Needs.{needs}
+use Rattle.recorder.specs.Flag.{liveFlag}
 use Rattle.table.specs.Inside.{mark-inside}
-use Rattle.translation.specs.Asks.{state-below, first-range, mark-is, byte-small}
+use Rattle.translation.specs.Asks.{state-below, first-is, first-range, mark-is, byte-small}
 use Rattle.translation.proofs.marks.mark.Statement.{statement}
 use Rattle.translation.proofs.marks.mark.Tie as tie
 
@@ -21,7 +22,7 @@ start-requires : tie.Need-start-requires
 start-requires c κs = search needs
 
 slot-requires : tie.Need-slot-requires
-slot-requires c κs = let d = c .before .before in first-range (d .pre .0) (d .pre .1) (c .start .ensures)
+slot-requires c κs = let d = c .before .before in first-range (d .pre .0) (d .pre .1) liveFlag (first-is (d .pre .0) (d .pre .1) (c .start .ensures))
 
 is-start-requires : tie.Need-is-start-requires
 is-start-requires c κs = let d = c .before .before .before in mark-inside _ _ (d .pre .0 .laid) _ (state-below (d .pre .0) (d .pre .1))
@@ -56,7 +57,8 @@ add-result-2 c = omega (arith, bits c)
 returns : tie.Need-returns
 returns c =
     let d = c .before .before .before .before .before .before in
-    mark-is (d .pre .0) (d .pre .1) (c .before .before .before .before .start .ensures) (c .before .before .before .slot .ensures)
+    let e = first-is (d .pre .0) (d .pre .1) (c .before .before .before .before .start .ensures) in
+    mark-is (d .pre .0) (d .pre .1) liveFlag e (c .before .before .before .slot .ensures)
     (c .before .before .is-start .ensures) (c .before .has-goal .ensures) (c .is-bad .ensures)
 
 pub mark-spec : {M : Type 1} → statement M

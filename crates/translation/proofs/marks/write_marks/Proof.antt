@@ -3,13 +3,14 @@
 use Prim.Native.Nat.{_-_}
 use native.Mathlib.Omega.{arith}
 use denote.Ref.{now}
+use Rattle.recorder.specs.Flag.{liveFlag}
 use Rattle.translation.specs.Asks.{Carries, record-range, next-is}
 use Rattle.translation.specs.Writing.{Marking, marking-begins, marking-on, marking-ends}
 use Rattle.translation.proofs.marks.write_marks.Statement.{statement}
 use Rattle.translation.proofs.marks.write_marks.Tie as tie
 
 abbrev Inv-loop : tie.InvT-loop
-Inv-loop bytes t part₀ slots n m r₀ p₀ part r p = Carries t p r (Marking bytes part₀ slots part p)
+Inv-loop bytes t part₀ slots n m r₀ p₀ part r p = Carries t p r (Marking liveFlag bytes part₀ slots part p)
 
 abbrev μ-loop : tie.MeasureT-loop
 μ-loop bytes t part₀ slots n m r₀ p₀ part r p = slots - p
@@ -20,7 +21,7 @@ of-slot-requires c κs = let l = c .before .before .pre .0 .laid in (l .states-t
 loop-holds : tie.Need-loop-holds Inv-loop μ-loop
 loop-holds c =
     let d = c .before .before .before in
-    record { here = c .of-slot .ensures; written = marking-begins (now (d .args .bytes)) (now (d .args .part)) (d .args .slots) (d .pre .1) }
+    record { here = c .of-slot .ensures; written = marking-begins liveFlag (now (d .args .bytes)) (now (d .args .part)) (d .args .slots) (d .pre .1) }
 
 mark-requires : tie.Need-mark-requires Inv-loop μ-loop
 mark-requires c κs = let l = c .before in (l .before .before .before .before .pre .0, (c .loop-test .taken, l .loop .inv .here))

@@ -9,6 +9,7 @@ use lib.Dec.{eqb}
 use mir.Val.{boolByte}
 use denote.Ref.{now}
 use borrow.Author.Needs.{needs}
+use Rattle.recorder.specs.Flag.{liveFlag}
 use Rattle.table.specs.Inside.{row-inside}
 use Rattle.translation.specs.File.{rowOf}
 use Rattle.translation.specs.Asks.{state-below, from-is, to-is, row-in, row-counted, row-few, byte-small}
@@ -26,16 +27,16 @@ abbrev unsaved : Read → Bool
 unsaved c = eqb (start-of c .args .r .t) (start-of c .args .t .states)
 
 abbrev row : Read → List ℕ
-row c = rowOf (now (start-of c .args .bytes)) (start-of c .args .p)
+row c = rowOf liveFlag (now (start-of c .args .bytes)) (start-of c .args .p)
 
 -- the number that is answered is the length of the row, which is small
 counted : (c : Read) → (c .before .row-start2 .result - c .before .before .row-start .result) * (1 + boolByte (unsaved c)) ≡ length (row c)
 counted c =
     let d = start-of c in
-    row-counted (d .pre .0) (d .pre .1) (c .before .before .row-start .ensures) (c .before .row-start2 .ensures)
+    row-counted (d .pre .0) (d .pre .1) liveFlag (c .before .before .row-start .ensures) (c .before .row-start2 .ensures)
 
 few : (c : Read) → length (row c) ≤ 2048
-few c = let d = start-of c in omega (arith, row-few (d .pre .0) (d .pre .1), d .pre .0 .laid .edges-to)
+few c = let d = start-of c in omega (arith, row-few (d .pre .0) (d .pre .1) liveFlag, d .pre .0 .laid .edges-to)
 
 row-start-requires : tie.Need-row-start-requires
 row-start-requires c κs = let d = c .before in row-inside _ _ (d .pre .0 .laid) _ (omega (arith, state-below (d .pre .0) (d .pre .1)))

@@ -4,13 +4,14 @@ use Prim.Native.Nat.{_-_}
 use native.Mathlib.Omega.{arith}
 use denote.Ref.{now}
 use borrow.Author.Needs.{needs}
+use Rattle.recorder.specs.Flag.{liveFlag}
 use Rattle.translation.specs.Writing.{Starting, starting-begins, starting-on, starting-ends}
 use Rattle.translation.specs.Asks.{Carries, slots-small, starts-small, record-range, next-is}
 use Rattle.translation.proofs.rows.write_rows.Statement.{statement}
 use Rattle.translation.proofs.rows.write_rows.Tie as tie
 
 abbrev Inv-loop : tie.InvT-loop
-Inv-loop bytes t part₀ slots n m r₀ sum₀ p₀ part r sum p = Carries t p r (Starting bytes part₀ slots part sum p)
+Inv-loop bytes t part₀ slots n m r₀ sum₀ p₀ part r sum p = Carries t p r (Starting liveFlag bytes part₀ slots part sum p)
 
 abbrev μ-loop : tie.MeasureT-loop
 μ-loop bytes t part₀ slots n m r₀ sum₀ p₀ part r sum p = slots - p
@@ -21,7 +22,7 @@ of-slot-requires c κs = let l = c .before .before .pre .0 .laid in (l .states-t
 loop-holds : tie.Need-loop-holds Inv-loop μ-loop
 loop-holds c =
     let d = c .before .before .before in
-    record { here = c .of-slot .ensures; written = starting-begins (now (d .args .bytes)) (now (d .args .part)) (d .args .slots) (d .pre .1) }
+    record { here = c .of-slot .ensures; written = starting-begins liveFlag (now (d .args .bytes)) (now (d .args .part)) (d .args .slots) (d .pre .1) }
 
 mul-put : tie.Need-mul-put Inv-loop μ-loop
 mul-put c = let i = c .before in omega (arith, i .loop-test .taken, slots-small (i .before .before .before .before .before .pre .0))
@@ -40,7 +41,7 @@ add-sum c =
     let k = c .before .before .before in
     let i = k .before .before in
     let v = starting-on (i .before .loop .inv .written) (k .put .ensures) (i .loop-test .taken) (c .row-length .ensures) in
-    omega (arith, v .sum-is, starts-small (i .before .before .before .before .before .pre .0) (v .to))
+    omega (arith, v .sum-is, starts-small liveFlag (i .before .before .before .before .before .pre .0) (v .to))
 
 following-requires : tie.Need-following-requires Inv-loop μ-loop
 following-requires c κs =

@@ -7,6 +7,7 @@ use Prim.Native.Nat.{ℕ, _+_, _-_, _*_, _≤_, _<_}
 use native.Mathlib.Omega.{arith}
 use lib.Dec.{eqb}
 use denote.Ref.{now}
+use Rattle.recorder.specs.Flag.{liveFlag}
 use Rattle.table.specs.Layout.{target}
 use Rattle.table.specs.BlockOf.{blockOf}
 use Rattle.table.specs.Inside.{row-inside, target-inside, mark-inside}
@@ -15,13 +16,13 @@ use Rattle.table.specs.Recording.{nextOf, stateOf, fromOf, toOf, state-in, slot
 use Rattle.table.specs.declared.Table.{Table}
 use Rattle.translation.specs.File.{alongOf}
 use Rattle.translation.specs.Asks.{Asks, RecordAt, slot-in, state-below, unsaved-is, from-is, to-is, row-in}
-use Rattle.translation.specs.Along.{zero-range, along-slot}
+use Rattle.translation.specs.Along.{zero-is, zero-range, along-slot}
 use Rattle.translation.specs.Writing.{Rowing, oneOrBoth, rowing-begins, along-is, rowing-room, rowing-on, rowing-ends}
 use Rattle.translation.proofs.targets.write_row.Statement.{statement}
 use Rattle.translation.proofs.targets.write_row.Tie as tie
 
 abbrev Inv-loop : tie.InvT-loop
-Inv-loop bytes t part₀ slots at p n m s saved goal fair to i₀ x y each end₀ part i end = Rowing bytes part₀ p at part i end
+Inv-loop bytes t part₀ slots at p n m s saved goal fair to i₀ x y each end₀ part i end = Rowing liveFlag bytes part₀ p at part i end
 
 abbrev μ-loop : tie.MeasureT-loop
 μ-loop bytes t part₀ slots at p n m s saved goal fair to i₀ x y each end₀ part i end = to - i
@@ -79,8 +80,8 @@ abbrev rowed-of : Ready → Rowed
 rowed-of c = c .before .before .before .before .before
 
 steps-at : (c : Ready) (s′ : ℕ)
-    → (s′ * c .with-flag-and-bits .result + c .before .before .before .slot .result ≡ nextOf (bytes-at (begun-of (rowed-of c))) (p-at (begun-of (rowed-of c))) s′ true)
-    × (s′ * c .with-flag-and-bits .result + c .before .slot2 .result ≡ nextOf (bytes-at (begun-of (rowed-of c))) (p-at (begun-of (rowed-of c))) s′ false)
+    → (s′ * c .with-flag-and-bits .result + c .before .before .before .slot .result ≡ nextOf liveFlag (bytes-at (begun-of (rowed-of c))) (p-at (begun-of (rowed-of c))) s′ true)
+    × (s′ * c .with-flag-and-bits .result + c .before .slot2 .result ≡ nextOf liveFlag (bytes-at (begun-of (rowed-of c))) (p-at (begun-of (rowed-of c))) s′ false)
 steps-at c s′ =
     let x = c .before .before .before in
     let w = rowed-of c in
@@ -88,8 +89,8 @@ steps-at c s′ =
     let g = w .before .before .before .has-goal .ensures in
     let f = w .before .before .fair .ensures in
     let e = c .with-flag-and-bits .ensures in (
-      along-slot (asks a) (here a) g f true (x .before .step .ensures) (x .slot .ensures) e s′,
-      along-slot (asks a) (here a) g f false (c .before .before .step2 .ensures) (c .before .slot2 .ensures) e s′,
+      along-slot liveFlag (asks a) (here a) true (zero-is (asks a) (here a) g f true (x .before .step .ensures)) (x .slot .ensures) e s′,
+      along-slot liveFlag (asks a) (here a) false (zero-is (asks a) (here a) g f false (c .before .before .step2 .ensures)) (c .before .slot2 .ensures) e s′,
     )
 
 -- in the row, at target i, which an edge leads to
@@ -129,18 +130,18 @@ small-at c =
     let b = b-in i in
     let f = asks (begun-in i) .formed in
     let (e, d) = steps-at (i .before .before) (c .target .result) in (
-      omega (arith, e, next-in b f (p-in i) _ true (edge-at c), slots-few b f),
-      omega (arith, d, next-in b f (p-in i) _ false (edge-at c), slots-few b f),
+      omega (arith, e, next-in liveFlag b f (p-in i) _ true (edge-at c), slots-few b f),
+      omega (arith, d, next-in liveFlag b f (p-in i) _ false (edge-at c), slots-few b f),
     )
 
 -- and is what slot p leads to
 along-at : (c : Met) → oneOrBoth (eqb (begun-in (c .before) .args .r .t) (table-at (begun-in (c .before)) .states)) (c .target .result * each-at c + x-at c) (c .target .result * each-at c + y-at c)
-    ≡ alongOf (b-in (c .before)) (p-in (c .before)) (target (b-in (c .before)) (c .before .before .loop .i))
+    ≡ alongOf liveFlag (b-in (c .before)) (p-in (c .before)) (target (b-in (c .before)) (c .before .before .loop .i))
 along-at c =
     let i = c .before in
     let a = begun-in i in
     let (e, d) = steps-at (i .before .before) (c .target .result) in
-    along-is (b-in i) (p-in i) _ (unsaved-is (asks a) (here a)) e d ∙ ap (alongOf (b-in i) (p-in i)) (c .target .ensures)
+    along-is liveFlag (b-in i) (p-in i) _ (unsaved-is (asks a) (here a)) e d ∙ ap (alongOf liveFlag (b-in i) (p-in i)) (c .target .ensures)
 
 has-goal-requires : tie.Need-has-goal-requires Inv-loop μ-loop
 has-goal-requires c κs = let d = c .before .before in mark-inside _ _ (asks d .laid) _ (s-in d)
@@ -164,7 +165,8 @@ slot-requires : tie.Need-slot-requires Inv-loop μ-loop
 slot-requires c κs =
     let w = c .before in
     let a = begun-of w in
-    zero-range (asks a) (here a) (w .before .before .before .has-goal .ensures) (w .before .before .fair .ensures) true (c .step .ensures)
+    let e = zero-is (asks a) (here a) (w .before .before .before .has-goal .ensures) (w .before .before .fair .ensures) true (c .step .ensures) in
+    zero-range liveFlag (asks a) (here a) true e
 
 step-requires-2 : tie.Need-step-requires-2 Inv-loop μ-loop
 step-requires-2 c κs = tt
@@ -173,7 +175,8 @@ slot-requires-2 : tie.Need-slot-requires-2 Inv-loop μ-loop
 slot-requires-2 c κs =
     let w = c .before .before .before in
     let a = begun-of w in
-    zero-range (asks a) (here a) (w .before .before .before .has-goal .ensures) (w .before .before .fair .ensures) false (c .step2 .ensures)
+    let e = zero-is (asks a) (here a) (w .before .before .before .has-goal .ensures) (w .before .before .fair .ensures) false (c .step2 .ensures) in
+    zero-range liveFlag (asks a) (here a) false e
 
 add-with-flag-and-bits : tie.Need-add-with-flag-and-bits Inv-loop μ-loop
 add-with-flag-and-bits c = omega (arith, asks (begun-of (c .before .before .before .before)) .laid .states-to)
@@ -187,7 +190,7 @@ loop-holds : tie.Need-loop-holds Inv-loop μ-loop
 loop-holds c =
     let w = rowed-of c in
     let a = begun-of w in
-    rowing-begins (bytes-at a) (now (a .args .part)) (p-at a) (a .args .at) (starts w) (omega (arith, inside a)) (a .pre .1 .1)
+    rowing-begins liveFlag (bytes-at a) (now (a .args .part)) (p-at a) (a .args .at) (starts w) (omega (arith, inside a)) (a .pre .1 .1)
 
 target-requires : tie.Need-target-requires Inv-loop μ-loop
 target-requires c κs = let a = begun-in c in target-inside _ _ (asks a .laid) _ (omega (arith, below-to c, inside a))

@@ -3,13 +3,14 @@
 use Prim.Native.Nat.{_-_}
 use native.Mathlib.Omega.{arith}
 use denote.Ref.{now}
+use Rattle.recorder.specs.Flag.{liveFlag}
 use Rattle.translation.specs.Asks.{Carries, record-range, next-is}
 use Rattle.translation.specs.Writing.{Targeting, targeting-begins, targeting-room, targeting-on, targeting-ends}
 use Rattle.translation.proofs.targets.write_targets.Statement.{statement}
 use Rattle.translation.proofs.targets.write_targets.Tie as tie
 
 abbrev Inv-loop : tie.InvT-loop
-Inv-loop bytes t part₀ slots n m r₀ at₀ p₀ part r at p = Carries t p r (Targeting bytes part₀ slots part at p)
+Inv-loop bytes t part₀ slots n m r₀ at₀ p₀ part r at p = Carries t p r (Targeting liveFlag bytes part₀ slots part at p)
 
 abbrev μ-loop : tie.MeasureT-loop
 μ-loop bytes t part₀ slots n m r₀ at₀ p₀ part r at p = slots - p
@@ -20,7 +21,7 @@ of-slot-requires c κs = let l = c .before .before .pre .0 .laid in (l .states-t
 loop-holds : tie.Need-loop-holds Inv-loop μ-loop
 loop-holds c =
     let d = c .before .before .before in
-    record { here = c .of-slot .ensures; written = targeting-begins (now (d .args .bytes)) (now (d .args .part)) (d .args .slots) (d .pre .1) }
+    record { here = c .of-slot .ensures; written = targeting-begins liveFlag (now (d .args .bytes)) (now (d .args .part)) (d .args .slots) (d .pre .1) }
 
 write-row-requires : tie.Need-write-row-requires Inv-loop μ-loop
 write-row-requires c κs =

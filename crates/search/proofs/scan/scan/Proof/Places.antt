@@ -30,13 +30,13 @@ use Rattle.search.specs.Scanning.{Waiting, Within, Left, left-ended, lef
 use Rattle.search.proofs.scan.scan.Tie as tie
 
 abbrev pub Inv-loop : tie.InvT-loop
-Inv-loop bytes t work₀ slots queued n m bad₀ head tail₀ x r s saved goal fair to i₀ work bad tail i = Within bytes work₀ work bad head tail x i
+Inv-loop bytes t work₀ slots queued n m bad₀ head tail₀ x r s saved goal fair to i₀ work bad tail i = Within liveFlag bytes work₀ work bad head tail x i
 
 abbrev pub μ-loop : tie.MeasureT-loop
 μ-loop bytes t work₀ slots queued n m bad₀ head tail₀ x r s saved goal fair to i₀ work bad tail i = to - i
 
 abbrev pub Inv-queue : tie.InvT-queue
-Inv-queue bytes t work₀ slots queued n m bad₀ head₀ tail₀ work bad head tail = Waiting bytes work₀ work bad head tail
+Inv-queue bytes t work₀ slots queued n m bad₀ head₀ tail₀ work bad head tail = Waiting liveFlag bytes work₀ work bad head tail
 
 abbrev pub μ-queue : tie.MeasureT-queue
 μ-queue bytes t work₀ slots queued n m bad₀ head₀ tail₀ work bad head tail = slots - head
@@ -94,7 +94,7 @@ table-at c = c .before .before .before .before .args .t
 abbrev pub x-at : InQueue → ℕ
 x-at c = getD (c .before .queue .work) (c .before .before .before .before .args .slots + c .before .queue .head) 0
 
-pub asks : (c : InQueue) → ScanAsks (bytes-at c) (table-at c) (c .before .before .before .before .args .slots) (now (c .before .before .before .before .args .work)) (c .before .before .before .before .args .queued)
+pub asks : (c : InQueue) → ScanAsks liveFlag (bytes-at c) (table-at c) (c .before .before .before .before .args .slots) (now (c .before .before .before .before .args .work)) (c .before .before .before .before .args .queued)
 asks c = c .before .before .before .before .pre
 
 pub x-slot : (c : InQueue) → slotAt (slotsOf (bytes-at c)) (c .before .queue .work) (c .before .queue .head) ≡ x-at c
@@ -149,7 +149,7 @@ to-is c =
     ∙ ap (rowStart (bytes-at (queue-of (apart-of c)))) (add-one (apart-of c .of-slot .result .s))
     ∙ ap (λ (r : Record). rowStart (bytes-at (queue-of (apart-of c))) (suc (r .s))) (r-is (apart-of c))
 
-pub turned-at : (c : InRow) → Turned (b-in c) (c .before .loop .work) (head-of c) (c .before .loop .tail) (x-of c) (c .before .loop .i)
+pub turned-at : (c : InRow) → Turned liveFlag (b-in c) (c .before .loop .work) (head-of c) (c .before .loop .tail) (x-of c) (c .before .loop .i)
 turned-at c = c .before .loop .inv .turned
 
 pub below-to : (c : InRow) → c .before .loop .i < toOf (b-in c) (x-of c)
@@ -164,10 +164,10 @@ abbrev pub step-at : InRow → Bool → Record
 step-at c wish = stepOf liveFlag (blockOf (b-in c)) (at (blockOf (b-in c)) (x-of c)) (target-at c) wish
 
 abbrev pub next-at : InRow → Bool → ℕ
-next-at c wish = nextOf (b-in c) (x-of c) (target-at c) wish
+next-at c wish = nextOf liveFlag (b-in c) (x-of c) (target-at c) wish
 
 pub edge-at : (c : InRow) → blockOf (b-in c) .edge (stateOf (b-in c) (x-of c)) (target-at c) ≡ true
-edge-at c = edge-there _ (asks (queue-in c) .formed) _ _ _ _ _ (turned-at c) (below-to c)
+edge-at c = edge-there liveFlag _ (asks (queue-in c) .formed) _ _ _ _ _ (turned-at c) (below-to c)
 
 -- what the steps read of the block
 pub leaves : (c : InRow) → Leaves (blockOf (b-in c)) (apart-of (c .before .before) .of-slot .result) (table-at (queue-in c) .states)
@@ -190,7 +190,7 @@ pub saving-is : (c : Saving) → c .step .result ≡ step-at (c .before .before)
 saving-is c = step-is (c .before .before) true _ _ (c .before .target .ensures) (c .step .ensures)
 
 pub y-is : (c : SavingSlot) → c .slot .result ≡ next-at (c .before .before .before) true
-y-is c = step-slot _ _ (asks (queue-in (c .before .before .before)) .laid) _ _ true _ (saving-is (c .before)) _ (c .slot .ensures)
+y-is c = step-slot liveFlag _ _ (asks (queue-in (c .before .before .before)) .laid) _ _ true _ (saving-is (c .before)) _ (c .slot .ensures)
 
 abbrev pub row-of : Tested → InRow
 row-of c = c .before .before .before .before
@@ -204,7 +204,7 @@ bad-is c =
     ∙ ap (badOf B) (saving-is (c .before .before) ∙ sym (at-next liveFlag B (sound (bytes-at q) (asks q .formed)) (x-at q) (target-at (row-of c)) true (edge-at (row-of c))))
 
 -- ---- after the first slot was met
-pub good-at : (c : Good) → ¬ graphOf (b-in (row-of (c .before))) .Bad (next-at (row-of (c .before)) true)
+pub good-at : (c : Good) → ¬ graphOf liveFlag (b-in (row-of (c .before))) .Bad (next-at (row-of (c .before)) true)
 good-at c h = true≢false (sym h ∙ sym (bad-is (c .before)) ∙ c .if1 .left)
 
 abbrev pub row-met : MetOne → InRow
@@ -222,7 +222,7 @@ pub plain-is : (c : Plain) → c .step2 .result ≡ step-at (row-met (met-of c))
 plain-is c = step-is (row-met (met-of c)) false _ _ (met-of c .before .before .before .before .before .before .target .ensures) (c .step2 .ensures)
 
 pub z-is : (c : PlainSlot) → c .slot2 .result ≡ next-at (row-met (met-of (c .before))) false
-z-is c = step-slot _ _ (asks (queue-in (row-met (met-of (c .before)))) .laid) _ _ false _ (plain-is (c .before)) _ (c .slot2 .ensures)
+z-is c = step-slot liveFlag _ _ (asks (queue-in (row-met (met-of (c .before)))) .laid) _ _ false _ (plain-is (c .before)) _ (c .slot2 .ensures)
 
 -- whether nothing is saved in x
 pub unsaved-is : (c : Apart) → eqb (c .of-slot .result .t) (table-at (queue-of c) .states) ≡ eqb (at (blockOf (bytes-at (queue-of c))) (x-at (queue-of c)) .t) (statesOf (bytes-at (queue-of c)))
@@ -237,26 +237,26 @@ pub met-if-at : (c : MetBoth) → MeetIfSays (eqb (at (blockOf (b-in (row-met (m
 met-if-at c = let i = row-met (met-before c) in if-says-as (unsaved-is (apart-of (i .before .before))) (asks (queue-in i) .slots-are) (z-is (c .before .before)) (c .meet-if .ensures)
 
 -- target i is done
-pub done-at : (c : MetBoth) → Turned (b-in (row-met (met-before c))) (c .meet-if .last .1 .0) (head-of (row-met (met-before c))) (c .meet-if .result) (x-of (row-met (met-before c))) (row-met (met-before c) .before .loop .i + 1)
+pub done-at : (c : MetBoth) → Turned liveFlag (b-in (row-met (met-before c))) (c .meet-if .last .1 .0) (head-of (row-met (met-before c))) (c .meet-if .result) (x-of (row-met (met-before c))) (row-met (met-before c) .before .loop .i + 1)
     × Met (slotsOf (b-in (row-met (met-before c)))) (row-met (met-before c) .before .loop .work) (row-met (met-before c) .before .loop .tail) (c .meet-if .result) (c .meet-if .last .1 .0)
 done-at c =
     let m = met-before c in
     let i = row-met m in
-    turned-on _ (asks (queue-in i) .formed) _ _ _ _ _ (turned-at i) (below-to i) (good-at (m .before .before)) _ _ (met-at m) _ _ (met-if-at c)
+    turned-on liveFlag _ (asks (queue-in i) .formed) _ _ _ _ _ (turned-at i) (below-to i) (good-at (m .before .before)) _ _ (met-at m) _ _ (met-if-at c)
 
 -- ---- how the queue's loop was left: at its end, or in the middle of a row at a bad slot
 abbrev pub LeftAt : LeftQueue → Type 0
-LeftAt c = Left (now (c .before .before .before .before .args .bytes)) (c .before .before .before .before .args .slots) (now (c .before .before .before .before .args .work)) (c .queue-test .work) (c .queue-test .bad) (c .before .queue .head)
+LeftAt c = Left liveFlag (now (c .before .before .before .before .args .bytes)) (c .before .before .before .before .args .slots) (now (c .before .before .before .before .args .work)) (c .queue-test .work) (c .queue-test .bad) (c .before .queue .head)
 
 pub at-bad : (p : AtBad) (w : List ℕ) (bad : ℕ) → w ≡ row-of (p .before) .before .loop .work → bad ≡ p .before .before .slot .result
-    → Left (b-in (row-of (p .before))) (queue-in (row-of (p .before)) .before .before .before .before .args .slots) (now (queue-in (row-of (p .before)) .before .before .before .before .args .work)) w bad (head-of (row-of (p .before)))
+    → Left liveFlag (b-in (row-of (p .before))) (queue-in (row-of (p .before)) .before .before .before .before .args .slots) (now (queue-in (row-of (p .before)) .before .before .before .before .args .work)) w bad (head-of (row-of (p .before)))
 at-bad p w bad e d =
     let i = row-of (p .before) in
     let q = queue-in i in
     let f = asks q .formed in
-    left-stopped (asks q .slots-are) (first-asks _ f _ _ _ _ _ (turned-at i) (below-to i) .slot-in)
+    left-stopped (asks q .slots-are) (first-asks liveFlag _ f _ _ _ _ _ (turned-at i) (below-to i) .slot-in)
     (rest-trans (q .before .queue .inv .same) (i .before .loop .inv .same))
-    (turned-stops _ f _ _ _ _ _ (turned-at i) (below-to i) (sym (bad-is (p .before)) ∙ p .if1 .taken))
+    (turned-stops liveFlag _ f _ _ _ _ _ (turned-at i) (below-to i) (sym (bad-is (p .before)) ∙ p .if1 .taken))
     e (d ∙ y-is (p .before .before))
 
 pub left : (c : LeftQueue) → LeftAt c
