@@ -5,7 +5,7 @@ use Prim.Native.Nat.{ℕ, suc, _+_, _*_, _^_, _≤_, _<_}
 use native.Mathlib.Omega.{arith}
 use lib.ListN.{length, getD, set, take, length-append, length-set}
 use lib.Seq.{take-suc, take-all}
-use Rattle.translation.specs.Placed.{placed, placed-none, placed-one, placed-on, length-placed}
+use Rattle.writing.specs.Placed.{placed, placed-none, placed-one, placed-on, length-placed}
 use Rattle.io.specs.Digits.{digits, Fewest}
 use Rattle.lines.specs.Decimal.{decimal-is, decimal-short}
 use Rattle.lines.specs.Text.{decimalOf, numbersOf, lineOf}

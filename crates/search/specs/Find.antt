@@ -20,7 +20,7 @@ use Rattle.table.specs.LaidOut.{LaidOut}
 use Rattle.table.specs.Sound.{sound}
 use Rattle.table.specs.declared.Table.{Table}
 use Rattle.table.specs.Recording.{slotsOf, graphOf, block-states, block-sets}
-use Rattle.search.specs.Buffers.{cleared, length-cleared, cleared-at, cleared-past, cleared-again}
+use Rattle.writing.specs.Cleared.{cleared, length-cleared, cleared-at, cleared-past, cleared-again}
 use Rattle.search.specs.Climb.{Climbs, pathBy, labelOf, kept-climbs, slot-path}
 use Rattle.search.specs.Report.{halves, odds, Reports, lasso-reported}
 use Rattle.search.specs.Scan.{ScanAsks, Stopped, ScanSays}

@@ -6,7 +6,6 @@ pub mod Scan
 pub mod Follow
 pub mod Scanning
 pub mod Starts
-pub mod Buffers
 pub mod Report
 pub mod Climb
 pub mod Searched

@@ -14,7 +14,7 @@ use Rattle.table.specs.BlockOf.{blockOf}
 use Rattle.table.specs.declared.refusal.Refusal.{Refusal}
 use Rattle.table.specs.declared.refusal.Refusal.the-variants.{ShortWorkspace, ShortReport}
 use Rattle.table.specs.Recording.{slotsOf}
-use Rattle.search.specs.Buffers.{cleared}
+use Rattle.writing.specs.Cleared.{cleared}
 use Rattle.search.specs.declared.Answer.{Answer}
 use Rattle.search.specs.declared.Answer.the-variants.{Lasso, Holds, Refused}
 

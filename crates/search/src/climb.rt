@@ -2,25 +2,11 @@
 ghost use mathlib.Core.Path.{_≡_};
 ghost use mathlib.Core.List.{_++_};
 ghost use Prim.Native.Nat.{ℕ, _≤_, _<_};
-ghost use lib.ListN.{length, getD, drop};
+ghost use lib.ListN.{length, drop};
 ghost use Rattle.recorder.specs.Slots.{slotCount};
 ghost use Rattle.search.specs.Climb.{Climbs, pathBy, labelOf};
 ghost use Rattle.search.specs.Report.{halves, odds};
 use recorder::Record;
-
-fn wide(x: u32) -> usize
-    ensures { λ r. ⌜ r ≡ x ⌝ }
-{
-    x as usize
-}
-
-// The word at index i.
-pub(crate) fn at(work: &[u32], i: usize) -> usize
-    requires { ⌜ i < length (now work) ⌝ }
-    ensures { λ r. ⌜ r ≡ getD (now (work .entry)) i 0 ⌝ }
-{
-    wide(work[i])
-}
 
 // How many records the path to index head has, whatever their labels.
 pub(crate) fn path_length(work: &[u32], slots: usize, head: usize) -> usize
@@ -31,8 +17,8 @@ pub(crate) fn path_length(work: &[u32], slots: usize, head: usize) -> usize
     let mut len = 0;
     loop {
         len += 1;
-        let x = at(work, slots + i);
-        let origin = at(work, x);
+        let x = writing::at(work, slots + i);
+        let origin = writing::at(work, x);
         if origin < 2 {
             return len;
         }
@@ -62,12 +48,12 @@ pub(crate) fn write_path(
     let mut unsaved = 0;
     loop {
         left -= 1;
-        let x = at(work, slots + i);
+        let x = writing::at(work, slots + i);
         let r = Record::of_slot(x, n, m);
         let s = r.s;
         report[left] = s as u32;
         unsaved += (r.t == n) as usize;
-        let origin = at(work, x);
+        let origin = writing::at(work, x);
         if origin < 2 {
             return unsaved;
         }

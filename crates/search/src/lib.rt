@@ -1,5 +1,4 @@
 // The search for the least lasso. docs/RULES.md, "Lasso and choice" and "Refusal list". The rules stand in specs/.
-mod clear;
 mod climb;
 mod meet;
 mod scan;
@@ -25,16 +24,16 @@ fn find(bytes: &[u8], t: Table, work: &mut [u32], report: &mut [u32], slots: usi
     ensures { λ a. ⌜ FindSays (now (bytes .entry)) (now (work .entry)) (now (report .entry)) a (now (work .exit)) (now (report .exit)) ⌝ }
 {
     // The queue's words may hold anything: each is written before it is read.
-    clear::clear(work, slots);
+    writing::clear(work, slots);
     let queued = starts::queue_starts(bytes, t, work, slots);
     let seen = scan::scan(bytes, t, work, slots, queued);
     let Seen::Bad { head, slot: _ } = seen else {
-        clear::clear(work, 2 * slots);
+        writing::clear(work, 2 * slots);
         return Answer::Holds;
     };
     let len = climb::path_length(work, slots, head);
     let unsaved = climb::write_path(work, report, slots, t.states, t.sets, head, len);
-    clear::clear(work, 2 * slots);
+    writing::clear(work, 2 * slots);
     Answer::Lasso {
         k: len - 1,
         l: unsaved - 1,

@@ -20,4 +20,3 @@ pub mod Sound
 pub mod Row
 pub mod Recording
 pub mod Labels
-pub mod Little

@@ -3,49 +3,26 @@
 -- counted in three inductions: over the flags and bits of one state and one saved t, over the t, over the states. Assumes nothing.
 use mathlib.Core.Path.{_≡_, refl, ap, _∙_}
 use mathlib.Core.Bool.{Bool, true, false}
-use mathlib.Core.Logic.{_⊎_, inl, inr}
-use mathlib.Core.List.{List, [], _∷_, _++_}
+use mathlib.Core.List.{List}
 use Prim.Native.Nat.{ℕ, zero, suc, _+_, _-_, _*_, _/_, _%_, _^_, _≤_, _<_}
-use native.Mathlib.Nat.{eq-or-lt-of-le, le-of-eq}
 use native.Mathlib.Omega.{arith}
 use lib.Arith.{digits-div, digits-mod}
 use lib.Dec.{eqb}
-use lib.ListN.{length, getD, length-append, List·getD-append}
+use lib.ListN.{length, length-append}
 use lib.Pow.{shr-shr}
-use lib.Seq.{getD-at}
 use borrow.Author.Tests.{eq-eqb, ne-eqb}
 use Rattle.quote.specs.Sizes.{edgeCount, translatedLength, stepsOf}
 use Rattle.recorder.specs.Flag.{Flag}
 use Rattle.recorder.specs.Slots.{slotCount, recordOfSlot}
 use Rattle.recorder.specs.SlotGraph.{at}
 use Rattle.table.specs.BlockOf.{blockOf}
-use Rattle.table.specs.Layout.{littleEndian, statesOf, edgesOf, setsOf, rowStart, target}
+use Rattle.table.specs.Layout.{statesOf, edgesOf, setsOf, rowStart, target}
 use Rattle.table.specs.Recording.{slotsOf, fromOf, toOf}
 use Rattle.table.specs.WellFormed.{WellFormed}
-use Rattle.translation.specs.File.{alongOf, alongFrom, rowOf, targetsTo, listed, startOfRow, fileOf}
-
--- ---- lists
-
--- a list of k numbers has k
-pub length-listed : (f : ℕ → ℕ) (k : ℕ) → length (listed f k) ≡ k
-unfolding listed
-length-listed f zero = refl
-length-listed f (suc k) = rw (length-append, length-listed f k) (omega arith)
-
--- and f i at place i
-pub getD-listed : (f : ℕ → ℕ) (k i : ℕ) → i < k → getD (listed f k) i 0 ≡ f i
-unfolding listed
-getD-listed f zero i h = absurd (omega arith)
-getD-listed f (suc k) i h = go (eq-or-lt-of-le h) (getD-listed f k i)
-  where
-    go : (suc i ≡ suc k) ⊎ (suc i < suc k) → (i < k → getD (listed f k) i 0 ≡ f i) → getD (listed f k ++ (f k ∷ [])) i 0 ≡ f i
-    go (inl e) ih = let d : i ≡ k = omega arith in rw d (getD-at (listed f k) (f k) [] 0 k (length-listed f k))
-    go (inr l) ih = List·getD-append (listed f k) (f k ∷ []) 0 i (omega (arith, length-listed f k)) ∙ ih (omega arith)
-
--- four bytes a number
-pub length-little : (xs : List ℕ) → length (littleEndian xs) ≡ 4 * length xs
-length-little [] = refl
-length-little (x ∷ xs) = omega (arith, length-little xs)
+use Rattle.writing.specs.File.{joinTo}
+use Rattle.writing.specs.Joined.{join-step, join-rise}
+use Rattle.writing.specs.FileRead.{length-with}
+use Rattle.translation.specs.File.{alongOf, alongFrom, rowOf, startOfRow, slotMark, fileOf}
 
 -- ---- one row
 
@@ -70,17 +47,11 @@ length-row R b p = length-along-from R b p (fromOf b p) (toOf b p - fromOf b p)
 
 -- the next row starts where this one ends
 pub starts-step : (R : Flag) (b : List ℕ) (p : ℕ) → startOfRow R b (suc p) ≡ startOfRow R b p + length (rowOf R b p)
-unfolding targetsTo
-starts-step R b p = length-append (targetsTo R b p) (rowOf R b p)
+starts-step R b p = join-step (rowOf R b) p
 
 -- so the starts never fall
 pub starts-rise : (R : Flag) (b : List ℕ) (p q : ℕ) → p ≤ q → startOfRow R b p ≤ startOfRow R b q
-starts-rise R b p zero h = le-of-eq (ap (startOfRow R b) (omega arith))
-starts-rise R b p (suc q) h = go (eq-or-lt-of-le h) (starts-rise R b p q)
-  where
-    go : (p ≡ suc q) ⊎ (p < suc q) → (p ≤ q → startOfRow R b p ≤ startOfRow R b q) → startOfRow R b p ≤ startOfRow R b (suc q)
-    go (inl e) ih = le-of-eq (ap (startOfRow R b) e)
-    go (inr l) ih = omega (arith, ih (omega arith), starts-step R b q)
+starts-rise R b p q h = join-rise (rowOf R b) p q h
 
 -- ---- all rows
 
@@ -140,7 +111,7 @@ starts-saved R b s (suc t) ht =
 -- over the states: each has n such t, and t = n, where nothing is saved, with two targets an edge
 starts-states : (R : Flag) (b : List ℕ) → WellFormed b → (s : ℕ) → s ≤ statesOf b
     → startOfRow R b (firstOf b s 0) ≡ rowStart b s * (statesOf b + 2) * 2 ^ (setsOf b + 1)
-unfolding targetsTo
+unfolding joinTo
 starts-states R b f zero hs = let h : firstOf b 0 0 ≡ 0 = omega arith in rw (h, f .rows .first-row) (omega arith)
 starts-states R b f (suc s) hs =
     let n = statesOf b in
@@ -166,4 +137,4 @@ starts-to R b f p h = omega (arith, starts-rise R b p (slotsOf b) h, all-targets
 pub length-file : (R : Flag) (b : List ℕ) → WellFormed b
     → length (fileOf R b) ≡ translatedLength (slotsOf b) (edgeCount (statesOf b) (edgesOf b) (setsOf b))
 unfolding fileOf
-length-file R b f = simp (length-append, length-little, length-listed) (omega (arith, all-targets R b f))
+length-file R b f = omega (arith, length-with 2 0 (slotsOf b) (rowOf R b) (slotMark R b), all-targets R b f)

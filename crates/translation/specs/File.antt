@@ -9,9 +9,10 @@ use Rattle.recorder.specs.Flag.{Flag}
 use Rattle.recorder.specs.Recorder.{startOf, badOf, unsaved}
 use Rattle.recorder.specs.Slots.{bitOf}
 use Rattle.recorder.specs.SlotGraph.{at, slot}
-use Rattle.table.specs.Layout.{littleEndian, rowsAt, targetsAt, marksAt, target}
+use Rattle.table.specs.Layout.{target}
 use Rattle.table.specs.BlockOf.{blockOf}
 use Rattle.table.specs.Recording.{slotsOf, nextOf, stateOf, fromOf, toOf}
+use Rattle.writing.specs.File.{joinTo, fileWith}
 
 -- ---- the targets
 
@@ -29,16 +30,10 @@ unfoldable pub rowOf : Flag → List ℕ → ℕ → List ℕ
 rowOf R b p = alongFrom R b p (fromOf b p) (toOf b p - fromOf b p)
 
 -- the rows of the slots below p, one after the other
-unfoldable pub targetsTo : Flag → List ℕ → ℕ → List ℕ
-targetsTo R b zero = []
-targetsTo R b (suc p) = targetsTo R b p ++ rowOf R b p
+abbrev pub targetsTo : Flag → List ℕ → ℕ → List ℕ
+targetsTo R b p = joinTo (rowOf R b) p
 
 -- ---- the row starts and the marks
-
--- f 0, f 1, .., f (k - 1)
-unfoldable pub listed : (ℕ → ℕ) → ℕ → List ℕ
-listed f zero = []
-listed f (suc k) = listed f k ++ (f k ∷ [])
 
 -- where the row of slot p starts
 abbrev pub startOfRow : Flag → List ℕ → ℕ → ℕ
@@ -54,12 +49,6 @@ slotMark R b p = bitOf (isStart R b p) + 2 * bitOf (blockOf b .goal (stateOf b p
 
 -- ---- the file
 
--- the seven numbers of the header, for S states and E edges
-abbrev pub headerOf : ℕ → ℕ → List ℕ
-headerOf S E = 2 ∷ S ∷ E ∷ 0 ∷ rowsAt ∷ targetsAt S ∷ marksAt S E ∷ []
-
--- header, row starts, targets, marks
+-- kind 2, m written 0, and a row and a mark for each slot
 unfoldable pub fileOf : Flag → List ℕ → List ℕ
-fileOf R b =
-    let S = slotsOf b in
-    littleEndian (headerOf S (startOfRow R b S)) ++ littleEndian (listed (startOfRow R b) (suc S)) ++ littleEndian (targetsTo R b S) ++ listed (slotMark R b) S
+fileOf R b = fileWith 2 0 (slotsOf b) (rowOf R b) (slotMark R b)

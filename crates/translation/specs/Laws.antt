@@ -21,9 +21,12 @@ use Rattle.table.specs.declared.Opened.the-variants.{Accepted, Refused as Table
 use Rattle.table.specs.declared.refusal.Refusal.{Refusal}
 use Rattle.table.specs.declared.refusal.Refusal.the-variants.{WrongMark, ShortOutput}
 use Rattle.table.specs.Recording.{slotsOf}
-use Rattle.translation.specs.File.{headerOf, listed, startOfRow, targetsTo, slotMark, fileOf}
-use Rattle.translation.specs.Counts.{length-little, length-listed, all-targets, length-file}
-use Rattle.translation.specs.Placed.{placed, length-placed, part-length, part-on}
+use Rattle.writing.specs.File.{listed, headerOf, fileWith}
+use Rattle.writing.specs.Listed.{length-listed}
+use Rattle.writing.specs.Little.{length-little}
+use Rattle.writing.specs.Placed.{placed, length-placed, part-length, part-on}
+use Rattle.translation.specs.File.{startOfRow, targetsTo, slotMark, fileOf}
+use Rattle.translation.specs.Counts.{all-targets, length-file}
 use Rattle.translation.specs.Translated.{sizeOf, translateLines, refusalOf, TranslateFor, TranslateSays}
 use Rattle.translation.specs.declared.Answer.{Answer}
 use Rattle.translation.specs.declared.Answer.the-variants.{Written, Refused}
@@ -96,7 +99,7 @@ module _ (R : Flag) {b : List ℕ} {S E : ℕ} (k : Counted b S E) where
 
   module _ (out : List ℕ) (room : 32 + 4 * S + 4 * E + S ≤ length out) where
     abbrev header : List ℕ
-    header = littleEndian (headerOf S E)
+    header = littleEndian (headerOf 2 S E 0)
 
     abbrev rows : List ℕ
     rows = littleEndian (listed (startOfRow R b) (suc S))
@@ -143,12 +146,12 @@ module _ (R : Flag) {b : List ℕ} {S E : ℕ} (k : Counted b S E) where
 
       pub marks-there : {m : List ℕ} → m ≡ marks
           → take (32 + 4 * S + 4 * E) w ++ (m ++ drop (32 + 4 * S + 4 * E + S - (32 + 4 * S + 4 * E)) (drop (32 + 4 * S + 4 * E) w)) ≡ placed 0 (fileOf R b) out
-      unfolding fileOf
+      unfolding fileOf fileWith
       marks-there e =
           let there =
           part-on (32 + 4 * S + 4 * E) (32 + 4 * S + 4 * E + S) (header ++ rows ++ targets) marks out p targets-length (omega (arith, length-listed (slotMark R b) S)) (omega arith) room in
           rw e there
-          ∙ ap (λ (E : ℕ). placed 0 (littleEndian (headerOf S E) ++ rows ++ targets ++ marks) out) (sym targets-are)
+          ∙ ap (λ (E : ℕ). placed 0 (littleEndian (headerOf 2 S E 0) ++ rows ++ targets ++ marks) out) (sym targets-are)
           ∙ rw (k .slots-are)
 
     -- the header goes first

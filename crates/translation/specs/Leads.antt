@@ -20,11 +20,8 @@ use Rattle.table.specs.Sound.{sound, edge-is}
 use Rattle.table.specs.Row.{row-some, row-edge, row-rises-strictly}
 use Rattle.table.specs.Recording.{slotsOf, graphOf, nextOf, stateOf, fromOf, toOf, block-states, state-in, next-in}
 use Rattle.table.specs.Labels.{label-saving, label-plain}
+use Rattle.writing.specs.FileRead.{Stands}
 use Rattle.translation.specs.File.{alongFrom, rowOf}
-
--- x stands somewhere in the list
-abbrev pub Stands : List ℕ → ℕ → Type 0
-Stands xs x = (j : ℕ) × (j < length xs) × (getD xs j 0 ≡ x)
 
 module _ (R : Flag) (b : List ℕ) (f : WellFormed b) (p : ℕ) (p-in : p < slotsOf b) where
   abbrev u : Bool

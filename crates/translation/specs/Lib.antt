@@ -4,14 +4,11 @@ pub mod Tests
 pub mod Counts
 pub mod Translated
 pub mod Leads
-pub mod Sections
 pub mod ReadBack
 pub mod Marks
 pub mod Demand3
-pub mod Placed
 pub mod Asks
 pub mod Along
-pub mod Header
 pub mod Writing
 pub mod Laws
 pub mod Written

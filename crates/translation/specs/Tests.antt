@@ -8,7 +8,8 @@ use Rattle.recorder.specs.Slots.{slotCount, slotOf, recordOfSlot}
 use Rattle.table.specs.First.{firstFrom, firstIn}
 use Rattle.table.specs.Layout.{littleEndian, wordAt, rowStart, target, mark}
 use Rattle.table.specs.BlockOf.{edgeAt, blockOf}
-use Rattle.translation.specs.File.{alongFrom, rowOf, targetsTo, listed, isStart, slotMark, fileOf}
+use Rattle.writing.specs.File.{listed, joinTo, fileWith}
+use Rattle.translation.specs.File.{alongFrom, rowOf, isStart, slotMark, fileOf}
 
 -- 1, 1, 1, 0, 28, 36, 40; row starts 0, 1; target 0; mark 1
 tableC : List ℕ
@@ -16,5 +17,5 @@ tableC = littleEndian (1 ∷ 1 ∷ 1 ∷ 0 ∷ 28 ∷ 36 ∷ 40 ∷ 0 ∷ 1 ∷ 
 
 file-of-c : fileOf liveFlag tableC
     ≡ littleEndian (2 ∷ 4 ∷ 6 ∷ 0 ∷ 28 ∷ 48 ∷ 72 ∷ 0 ∷ 1 ∷ 2 ∷ 4 ∷ 6 ∷ 0 ∷ 1 ∷ 0 ∷ 2 ∷ 1 ∷ 3 ∷ []) ++ (64 ∷ 0 ∷ 1 ∷ 0 ∷ [])
-unfolding fileOf listed targetsTo rowOf alongFrom isStart slotMark wordAt rowStart target mark blockOf edgeAt slotCount slotOf recordOfSlot firstFrom firstIn tableC
+unfolding fileOf fileWith listed joinTo rowOf alongFrom isStart slotMark wordAt rowStart target mark blockOf edgeAt slotCount slotOf recordOfSlot firstFrom firstIn tableC
 file-of-c = refl

@@ -13,14 +13,11 @@ use Rattle.recorder.specs.SlotGraph.{at}
 use Rattle.table.specs.BlockOf.{blockOf}
 use Rattle.table.specs.Layout.{littleEndian, target}
 use Rattle.table.specs.Recording.{nextOf, fromOf, toOf}
-use Rattle.translation.specs.File.{alongOf, alongFrom, rowOf, targetsTo, listed, startOfRow, slotMark}
-use Rattle.translation.specs.Counts.{length-listed, starts-step, starts-rise}
-use Rattle.translation.specs.Placed.{placed, placed-none, placed-all, byte-next, little-next, little-length, little-all}
-
--- one more number
-listed-next : (f : ℕ → ℕ) (p x : ℕ) → x ≡ f p → listed f p ++ (x ∷ []) ≡ listed f (p + 1)
-unfolding listed
-listed-next f p x e = ap (λ (x : ℕ). listed f p ++ (x ∷ [])) e ∙ sym (ap (listed f) (add-one p))
+use Rattle.writing.specs.File.{listed, joinTo}
+use Rattle.writing.specs.Listed.{length-listed, listed-next}
+use Rattle.writing.specs.Placed.{placed, placed-none, placed-all, byte-next, little-next, little-length, little-all}
+use Rattle.translation.specs.File.{alongOf, alongFrom, rowOf, targetsTo, startOfRow, slotMark}
+use Rattle.translation.specs.Counts.{starts-step, starts-rise}
 
 -- ---- the marks
 
@@ -61,7 +58,7 @@ pub record Starting (R : Flag) (b w₀ : List ℕ) (S : ℕ) (w : List ℕ) (sum
   pub same-length : length w ≡ length w₀
 
 pub starting-begins : (R : Flag) (b w₀ : List ℕ) (S : ℕ) → length w₀ ≡ 4 * suc S → Starting R b w₀ S w₀ 0 0
-unfolding listed targetsTo
+unfolding listed joinTo
 starting-begins R b w₀ S e = record { to = zero-le; room = e; sum-is = refl; is = placed-none 0 w₀; same-length = refl }
 
 module _ {R : Flag} {b w₀ : List ℕ} {S : ℕ} {w : List ℕ} {sum p : ℕ} (g : Starting R b w₀ S w sum p) {w′ : List ℕ} (e : w′ ≡ placed (4 * p) (littleEndian (sum ∷ [])) w) where
@@ -205,7 +202,7 @@ pub record Targeting (R : Flag) (b w₀ : List ℕ) (S : ℕ) (w : List ℕ) (at
   pub same-length : length w ≡ length w₀
 
 pub targeting-begins : (R : Flag) (b w₀ : List ℕ) (S : ℕ) → length w₀ ≡ 4 * startOfRow R b S → Targeting R b w₀ S w₀ 0 0
-unfolding targetsTo
+unfolding joinTo
 targeting-begins R b w₀ S e = record { to = zero-le; room = e; at-is = refl; is = placed-none 0 w₀; same-length = refl }
 
 module _ {R : Flag} {b w₀ : List ℕ} {S : ℕ} {w : List ℕ} {at p : ℕ} (g : Targeting R b w₀ S w at p) where
@@ -221,7 +218,7 @@ module _ {R : Flag} {b w₀ : List ℕ} {S : ℕ} {w : List ℕ} {at p : ℕ} (g
     targeting-room = omega (arith, next-most, one-more, g .at-is, g .same-length)
 
     pub targeting-on : {w′ : List ℕ} {r : ℕ} → r ≡ at + 4 * length (rowOf R b p) → w′ ≡ placed at (littleEndian (rowOf R b p)) w → Targeting R b w₀ S w′ r (p + 1)
-    unfolding targetsTo
+    unfolding joinTo
     targeting-on {w′} {r} q d =
         let is : w′ ≡ placed 0 (littleEndian (targetsTo R b (p + 1))) w₀ =
         little-next 0 at (targetsTo R b p) (rowOf R b p) w₀ (g .is) d (omega (arith, g .at-is)) (omega (arith, next-most, one-more))

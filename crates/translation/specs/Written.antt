@@ -18,9 +18,9 @@ use Rattle.table.specs.declared.Opened.{Opened}
 use Rattle.table.specs.declared.Opened.the-variants.{Accepted, Refused as TableRefused}
 use Rattle.table.specs.declared.refusal.Refusal.{Refusal}
 use Rattle.table.specs.declared.refusal.Refusal.the-variants.{ShortOutput}
+use Rattle.writing.specs.Placed.{placed}
 use Rattle.translation.specs.File.{fileOf}
 use Rattle.translation.specs.Counts.{length-file}
-use Rattle.translation.specs.Placed.{placed}
 use Rattle.translation.specs.Demand3.{Translates, translates-live}
 use Rattle.translation.specs.Translated.{sizeOf, translateLines, refusalOf, TranslateFor, TranslateSays}
 use Rattle.translation.specs.declared.Answer.the-variants.{Written, Refused}

@@ -1,6 +1,6 @@
 // The translated table. docs/RULES.md, "Translated table" and line 11 of "Refusal list". The rules stand in specs/.
+mod header;
 mod marks;
-mod put;
 mod rows;
 mod targets;
 
@@ -30,7 +30,7 @@ pub fn translate(bytes: &[u8], out: &mut [u8]) -> Answer
     if out.len() < size {
         return Answer::Refused(Refusal::ShortOutput);
     }
-    put::write_header(&mut out[0..28], slots, edges);
+    header::write_header(&mut out[0..28], slots, edges);
     rows::write_rows(bytes, t, &mut out[28..targets], slots);
     targets::write_targets(bytes, t, &mut out[targets..marks], slots);
     marks::write_marks(bytes, t, &mut out[marks..size], slots);

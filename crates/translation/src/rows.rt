@@ -4,9 +4,9 @@ ghost use Prim.Native.Nat.{suc, _*_, _<_};
 ghost use lib.ListN.{length};
 ghost use Rattle.recorder.specs.Flag.{liveFlag};
 ghost use Rattle.table.specs.Layout.{littleEndian};
-ghost use Rattle.translation.specs.File.{rowOf, listed, startOfRow};
+ghost use Rattle.writing.specs.File.{listed};
+ghost use Rattle.translation.specs.File.{rowOf, startOfRow};
 ghost use Rattle.translation.specs.Asks.{Asks, RecordAt};
-use super::put;
 use recorder::Record;
 use table::Table;
 
@@ -35,10 +35,10 @@ pub(crate) fn write_rows(bytes: &[u8], t: Table, part: &mut [u8], slots: usize)
     let mut sum = 0;
     let mut p = 0;
     while p < slots {
-        put::put(part, 4 * p, sum);
+        writing::put(part, 4 * p, sum);
         sum += row_length(bytes, t, slots, p, r);
         r = r.following(n, m);
         p += 1;
     }
-    put::put(part, 4 * slots, sum);
+    writing::put(part, 4 * slots, sum);
 }

@@ -6,10 +6,9 @@ ghost use Prim.Native.Nat.{_+_, _*_, _≤_, _<_};
 ghost use lib.ListN.{length};
 ghost use Rattle.recorder.specs.Flag.{liveFlag};
 ghost use Rattle.table.specs.Layout.{littleEndian};
+ghost use Rattle.writing.specs.Placed.{placed};
 ghost use Rattle.translation.specs.File.{rowOf, targetsTo, startOfRow};
 ghost use Rattle.translation.specs.Asks.{Asks, RecordAt};
-ghost use Rattle.translation.specs.Placed.{placed};
-use super::put;
 use recorder::Record;
 use table::Table;
 
@@ -19,9 +18,9 @@ fn put_both(both: bool, part: &mut [u8], at: usize, x: usize, y: usize) -> usize
     ensures { λ r. ⌜ r ≡ at + 4 * length (x ∷ cond both (y ∷ []) []) ⌝ }
     ensures { λ r. ⌜ now (part .exit) ≡ placed at (littleEndian (x ∷ cond both (y ∷ []) [])) (now (part .entry)) ⌝ }
 {
-    put::put(part, at, x);
+    writing::put(part, at, x);
     if both {
-        put::put(part, at + 4, y);
+        writing::put(part, at + 4, y);
         return at + 8;
     }
     at + 4

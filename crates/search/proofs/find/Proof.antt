@@ -9,7 +9,7 @@ use borrow.Author.Needs.{needs}
 use Rattle.recorder.specs.Flag.{liveFlag}
 use Rattle.recorder.specs.Slots.{slotCount}
 use Rattle.table.specs.Recording.{slots-few}
-use Rattle.search.specs.Buffers.{cleared}
+use Rattle.writing.specs.Cleared.{cleared}
 use Rattle.search.specs.Climb.{pathBy, labelOf, path-to}
 use Rattle.search.specs.Find.{FindAsks, Told, starts-asked, scan-asked, rest-stays, seen-as, stopped-climbs, stopped-tells, says-lasso, says-holds, clears}
 use Rattle.search.specs.Scan.{Stopped}

@@ -15,9 +15,10 @@ use Rattle.table.specs.Open.{openOf}
 use Rattle.table.specs.WellFormed.{WellFormed, well-formed, laid, why-is}
 use Rattle.table.specs.declared.Table.{Table}
 use Rattle.table.specs.declared.Opened.the-variants.{Accepted}
+use Rattle.writing.specs.File.{listed, headerOf}
+use Rattle.writing.specs.Placed.{placed}
 use Rattle.translation.specs.Asks.{Asks}
-use Rattle.translation.specs.File.{headerOf, listed, startOfRow, targetsTo}
-use Rattle.translation.specs.Placed.{placed}
+use Rattle.translation.specs.File.{startOfRow, targetsTo}
 use Rattle.translation.specs.Laws.{Counted, table-refused, short-output, translated, size-is, edges-counted, sizes-small, header-there, rows-room, rows-there, targets-room, targets-there, marks-room, marks-there}
 use Rattle.translation.proofs.translate.Statement.{statement}
 use Rattle.translation.proofs.translate.Tie as tie
@@ -64,7 +65,7 @@ asks c = record { formed = formed (taken c); laid = laid _ _ (opened (taken c));
 
 -- with the header
 abbrev header : tie.After-edge-count → List ℕ
-header c = littleEndian (headerOf (S c) (E c))
+header c = littleEndian (headerOf 2 (S c) (E c) 0)
 
 abbrev headed : tie.After-write-header → tie.After-edge-count
 headed c = c .before .before .before

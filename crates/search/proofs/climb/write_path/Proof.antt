@@ -11,8 +11,8 @@ use lib.ListN.{length, set, take, drop, length-set, take-append-drop}
 use Rattle.order.specs.Word.{Word}
 use Rattle.recorder.specs.Slots.{recordOfSlot, record-in, bit-lt}
 use Rattle.recorder.specs.declared.Record.{Record}
+use Rattle.writing.specs.Placed.{write-down}
 use Rattle.search.specs.Workspace.{originAt, slotAt}
-use Rattle.search.specs.Buffers.{write-down}
 use Rattle.search.specs.Report.{halves, odds, number-half, number-odd}
 use Rattle.search.specs.Climb.{Climbs, Climbing, labelOf, pathBy, climb-begins, climb-down, climb-goes-on, climb-ends, climb-left}
 use Rattle.search.proofs.climb.write_path.Statement.{statement}
