@@ -1,10 +1,11 @@
 -- What lines 1 to 4 of the refusal list leave: the counts are the header's and inside their ranges, and the length is theirs. The scans of
 -- lines 5 to 8 need this to read inside the bytes. Assumes nothing.
-use mathlib.Core.Path.{_≡_}
+use mathlib.Core.Path.{_≡_, ap}
 use mathlib.Core.Bool.{true}
 use mathlib.Core.Logic.{_↔_, Iff·rfl}
 use mathlib.Core.List.{List}
 use Prim.Native.Nat.{ℕ, _≤_}
+use native.Mathlib.Omega.{arith}
 use lib.ListN.{length}
 use Rattle.table.specs.Layout.{statesOf, edgesOf, setsOf, rowsOffset, targetsOffset, marksOffset, rowsAt, targetsAt, marksAt, lengthOf, tableOf}
 use Rattle.table.specs.Open.{countsFit, layoutFits}
@@ -25,6 +26,26 @@ pub record LaidOut (b : List ℕ) (t : Table) : Type 0 where
 -- a table with these counts is the one that the header counts
 pub table-is : (b : List ℕ) (t : Table) → t .states ≡ statesOf b → t .edges ≡ edgesOf b → t .sets ≡ setsOf b → t ≡ tableOf b
 table-is b t s e m = λ i. record { states = s i; edges = e i; sets = m i }
+
+-- so a table is laid out where it is the header's, its counts are inside their ranges and the length is theirs
+pub laid-by : (b : List ℕ) (t : Table) → t ≡ tableOf b
+    → (((1 ≤ statesOf b) × (statesOf b ≤ 64)) × ((1 ≤ edgesOf b) × (edgesOf b ≤ 1024))) × (setsOf b ≤ 4)
+    → length b ≡ lengthOf (statesOf b) (edgesOf b) → LaidOut b t
+laid-by b t e counts size =
+    let s : t .states ≡ statesOf b = ap (λ (t : Table). t .states) e in
+    let d : t .edges ≡ edgesOf b = ap (λ (t : Table). t .edges) e in
+    let m : t .sets ≡ setsOf b = ap (λ (t : Table). t .sets) e in
+    record {
+      states-are = s;
+      edges-are = d;
+      sets-are = m;
+      states-from = omega arith;
+      states-to = omega arith;
+      edges-from = omega arith;
+      edges-to = omega arith;
+      sets-to = omega arith;
+      size = omega arith;
+    }
 
 -- ---- what lines 3 and 4 say where they are not given, nested as the tests are
 

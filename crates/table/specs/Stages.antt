@@ -14,7 +14,7 @@ use Rattle.table.specs.Given.{firstGiven, test-off, index-off, none-give
 use Rattle.table.specs.Layout.{kindOf, statesOf, edgesOf, setsOf, lengthOf, tableOf}
 use Rattle.table.specs.Open.{countsFit, layoutFits, rowStartWrong, targetWrong, rowEmpty, markWrong, countLines, rowLines, contentLines, answerOf, openedBy}
 use Rattle.table.specs.Facts.{facts}
-use Rattle.table.specs.LaidOut.{LaidOut, counts-right, layout-right}
+use Rattle.table.specs.LaidOut.{LaidOut, laid-by, counts-right, layout-right}
 use Rattle.table.specs.Rows.{RowsRight, row-starts-right}
 use Rattle.table.specs.declared.Table.{Table}
 use Rattle.table.specs.declared.Opened.{Opened}
@@ -108,23 +108,7 @@ module _ (b : List ℕ) where
 
   -- what the counts and the layout leave
   pub laid-out : Counted → layoutFits b ≡ true → (t : Table) → t ≡ tableOf b → LaidOut b t
-  laid-out c l t e =
-      let layout = layout-right b .0 l in
-      let counts = c .counts in
-      let s : t .states ≡ statesOf b = ap (λ (t : Table). t .states) e in
-      let d : t .edges ≡ edgesOf b = ap (λ (t : Table). t .edges) e in
-      let m : t .sets ≡ setsOf b = ap (λ (t : Table). t .sets) e in
-      record {
-        states-are = s;
-        edges-are = d;
-        sets-are = m;
-        states-from = omega arith;
-        states-to = omega arith;
-        edges-from = omega arith;
-        edges-to = omega arith;
-        sets-to = omega arith;
-        size = omega arith;
-      }
+  laid-out c l t e = laid-by b t e (c .counts) (layout-right b .0 l .1)
 
   -- what they leave
   pub rows-leave : firstGiven (rowLines b) ≡ none → (layoutFits b ≡ true) × RowsRight b

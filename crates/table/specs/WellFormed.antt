@@ -16,7 +16,7 @@ use Rattle.table.specs.Layout.{kindOf, statesOf, edgesOf, setsOf, rowsOf
 use Rattle.table.specs.Open.{rowEmpty, markWrong, countLines, rowLines, contentLines, linesOf, openOf, whyOf}
 use Rattle.table.specs.Bits.{low-bits}
 use Rattle.table.specs.Facts.{facts}
-use Rattle.table.specs.LaidOut.{LaidOut, counts-right, layout-right}
+use Rattle.table.specs.LaidOut.{LaidOut, laid-by, counts-right, layout-right}
 use Rattle.table.specs.Rows.{RowsRight, row-starts-right}
 use Rattle.table.specs.Targets.{targets-right}
 use Rattle.table.specs.Stages.{stage-accepts, accepts-says}
@@ -86,21 +86,7 @@ well-formed b t e = accepted b .0 (e ∙ ap Accepted (accepted-table b t e))
 pub laid : (b : List ℕ) (t : Table) → openOf b ≡ Accepted t → LaidOut b t
 laid b t e =
     let w = well-formed b t e in
-    let is = accepted-table b t e in
-    let s = ap (λ (t : Table). t .states) is in
-    let d = ap (λ (t : Table). t .edges) is in
-    let m = ap (λ (t : Table). t .sets) is in
-    record {
-      states-are = s;
-      edges-are = d;
-      sets-are = m;
-      states-from = omega arith;
-      states-to = omega arith;
-      edges-from = omega arith;
-      edges-to = omega arith;
-      sets-to = omega arith;
-      size = omega arith;
-    }
+    laid-by b t (accepted-table b t e) (((w .states-from, w .states-to), (w .edges-from, w .edges-to)), w .sets-to) (w .size)
 
 -- what `open` says settles its answer
 pub open-settled : (b : List ℕ) (x y : Opened) → x ≡ openOf b → y ≡ openOf b → x ≡ y

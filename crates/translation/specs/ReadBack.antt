@@ -16,7 +16,7 @@ use Rattle.table.specs.WellFormed.{WellFormed}
 use Rattle.table.specs.Recording.{slotsOf, graphOf}
 use Rattle.quote.specs.Sizes.{edges-small}
 use Rattle.writing.specs.FileRead as file
-use Rattle.writing.specs.FileRead.{Fits}
+use Rattle.writing.specs.FileRead.{NumbersFit}
 use Rattle.translation.specs.File.{rowOf, targetsTo, startOfRow, slotMark, fileOf}
 use Rattle.translation.specs.Counts.{all-targets}
 use Rattle.translation.specs.Leads.{row-leads, row-slots, row-has, row-step}
@@ -32,7 +32,7 @@ module _ (R : Flag) (b : List ℕ) (f : WellFormed b) where
   F = fileOf R b
 
   -- the numbers of the file fit in 32 bits
-  fits : Fits 2 0 S (rowOf R b)
+  fits : NumbersFit 2 0 S (rowOf R b)
   fits = record {
     kind-fits = omega arith;
     sets-fit = omega arith;

@@ -29,7 +29,7 @@ abbrev pub RowsStrict : ℕ → (ℕ → List ℕ) → Type 0
 RowsStrict n row = (s j : ℕ) → s < n → suc j < length (row s) → getD (row s) j 0 < getD (row s) (suc j) 0
 
 -- all numbers of the file fit in 32 bits: the last offset is the largest
-pub record Fits (kind m n : ℕ) (row : ℕ → List ℕ) : Type 0 where
+pub record NumbersFit (kind m n : ℕ) (row : ℕ → List ℕ) : Type 0 where
   pub kind-fits : kind < 4294967296
   pub sets-fit : m < 4294967296
   pub offsets-fit : marksAt n (startIn row n) < 4294967296
@@ -40,7 +40,7 @@ pub length-with : (kind m n : ℕ) (row : ℕ → List ℕ) (marks : ℕ → ℕ
 unfolding fileWith
 length-with kind m n row marks = simp (length-append, length-little, length-listed) (omega arith)
 
-module _ (kind m n : ℕ) (row : ℕ → List ℕ) (marks : ℕ → ℕ) (fits : Fits kind m n row) where
+module _ (kind m n : ℕ) (row : ℕ → List ℕ) (marks : ℕ → ℕ) (fits : NumbersFit kind m n row) where
   abbrev e : ℕ
   e = startIn row n
 

@@ -16,7 +16,7 @@ use Rattle.table.specs.declared.Opened.the-variants.{Accepted}
 use Rattle.writing.specs.File.{joinTo, startIn, fileWith}
 use Rattle.writing.specs.Joined.{join-step, join-rise}
 use Rattle.writing.specs.FileRead as file
-use Rattle.writing.specs.FileRead.{Stands, RowsBelow, RowsStrict, Fits}
+use Rattle.writing.specs.FileRead.{Stands, RowsBelow, RowsStrict, NumbersFit}
 
 -- n rows and marks within the limits: n from 1 to 64, at most 4 sets and 1,024 targets; rows rise strictly and hold states; bits past start, goal and
 -- the m sets are clear
@@ -48,7 +48,7 @@ module _ (m n : ℕ) (row : ℕ → List ℕ) (marks : ℕ → ℕ) (within : In
   abbrev F : List ℕ
   F = fileWith 1 m n row marks
 
-  fits : Fits 1 m n row
+  fits : NumbersFit 1 m n row
   fits = record {
     kind-fits = omega arith;
     sets-fit = omega (arith, within .sets-to);
