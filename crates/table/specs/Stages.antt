@@ -11,7 +11,7 @@ use lib.Dec.{eqb, ltb}
 use lib.ListN.{length}
 use Rattle.table.specs.First.{firstIn}
 use Rattle.table.specs.Given.{firstGiven, test-off, index-off, none-given, part-on, part-off}
-use Rattle.table.specs.Layout.{kindOf, statesOf, edgesOf, setsOf, lengthOf, tableOf}
+use Rattle.table.specs.Layout.{kindOf, statesOf, edgesOf, setsOf, tableOf}
 use Rattle.table.specs.Open.{countsFit, layoutFits, rowStartWrong, targetWrong, rowEmpty, markWrong, countLines, rowLines, contentLines, answerOf, openedBy}
 use Rattle.table.specs.Facts.{facts}
 use Rattle.table.specs.LaidOut.{LaidOut, laid-by, counts-right, layout-right}
