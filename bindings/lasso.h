@@ -48,8 +48,8 @@
  * The translated table, which lasso_translate writes, has the same layout with kind 2, S for n, E for e, and 0 for m. It has a state for each record
  * s, t, live, v (see lasso_step), with the number ((s(n+1) + t)*2 + live)*2^m + v. S = n(n+1)*2^(m+1), E = e(n+2)*2^(m+1), and the length is
  * 32 + 5S + 4E bytes. In its marks LASSO_MARK_START is set where s is a start state, t is n, and live and v are 0; LASSO_MARK_GOAL where s has the
- * goal; LASSO_MARK_BAD where s is t, live is 0 and v has the bits of all m sets. The rest is clear. Its edges are its record's steps along each edge,
- * with the wish on and off. lasso_open does not accept this table.
+ * goal; LASSO_MARK_BAD where s is t, live is 0 and v has the bits of all m sets. The rest is clear. The edges of a state are the steps of its record
+ * along each edge of s, with the wish on and off. lasso_open does not accept this table.
  */
 #ifndef LASSO_H
 #define LASSO_H

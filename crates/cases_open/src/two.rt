@@ -1,5 +1,5 @@
-// Two faults at once. The first in the list's order that applies is given, and within a line the first place. Lines 1 and 2 together stand in heads.rt, as
-// 27 zeros, and lines 7 and 8 in rows.rt.
+// Two faults at once. The first in the list's order that applies is given, and within a line the first place. Lines 1 and 2 together stand in
+// heads.rt, as 27 zeros, and lines 7 and 8 in rows.rt.
 use super::base::mark;
 use super::base::row;
 use super::base::target;

@@ -35,13 +35,6 @@ module _ {A : Type 0} where
   index-off none r = (λ e. refl, λ e. refl)
   index-off (some i) r = (λ e. absurd (Option·some-ne-none (r i) e), λ e. absurd (Option·some-ne-none i e))
 
-  -- down the list: past a line that is not given, and at one that is
-  pub line-off : (o : Option A) (rs : List (Option A)) → o ≡ none → firstGiven (o ∷ rs) ≡ firstGiven rs
-  line-off o rs e = rw e
-
-  pub line-on : (o : Option A) (rs : List (Option A)) (r : A) → o ≡ some r → firstGiven (o ∷ rs) ≡ some r
-  line-on o rs r e = rw e
-
   -- no line is given
   pub none-given : (o : Option A) (rs : List (Option A)) → (firstGiven (o ∷ rs) ≡ none) ↔ ((o ≡ none) × (firstGiven rs ≡ none))
   none-given none rs = (λ e. (refl, e), λ h. h .1)

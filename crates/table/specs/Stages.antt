@@ -1,8 +1,8 @@
--- Going down the refusal list by stages: lines 1 to 3 (the counts), 4 and 5 (layout and row starts), 6 to 8 (targets and marks). For each stage: the
+-- Going down the refusal list by stages: lines 1 to 3 (the counts), 4 and 5 (layout and row starts), 6 to 8 (targets, empty rows and marks). For each stage: the
 -- line that is given, by the tests before it in that stage, and what is known where none is. A stage's answer is that of the lines up to its end.
 -- Assumes nothing.
 use mathlib.Core.Path.{_≡_, refl, sym, ap, _∙_}
-use mathlib.Core.Bool.{Bool, true, false}
+use mathlib.Core.Bool.{true, false}
 use mathlib.Core.List.{List, _++_}
 use mathlib.Core.Option.{Option, none, some}
 use Prim.Native.Nat.{ℕ, _+_, _≤_}

@@ -1,12 +1,10 @@
 -- Opening accepts exactly the tables that docs/RULES.md, "The table file", describes. First the description, as a record, then what
 -- each line of the refusal list says where it is not given, then the theorem. Assumes nothing.
 use mathlib.Core.Path.{_≡_, refl, sym, ap, _∙_}
-use mathlib.Core.Bool.{Bool, true, false, true≢false}
 use mathlib.Core.Logic.{_↔_}
-use mathlib.Core.List.{List, _∷_}
-use mathlib.Core.Option.{Option, none, some, Option·some-ne-none}
+use mathlib.Core.List.{List}
+use mathlib.Core.Option.{none}
 use Prim.Native.Nat.{ℕ, suc, _+_, _≤_, _<_, zero-le}
-use native.Mathlib.Omega.{arith}
 use lib.ListN.{length}
 use Rattle.order.specs.Settled.{settled}
 use Rattle.recorder.specs.Block.{HasBit}

@@ -1,4 +1,5 @@
-// The table file: its counts and refusals, and reading it. Opening stands in the crate `opening`. docs/RULES.md, "The table file" and "Refusal list". The rules stand in specs/.
+// The table file: its counts and refusals, and reading it. docs/RULES.md, "The table file" and "Refusal list". The rules stand in specs/; opening
+// stands in the crate `opening`.
 mod read;
 mod refusal;
 

@@ -34,8 +34,8 @@ pub record Has (m n : ℕ) (row : ℕ → List ℕ) (marks : ℕ → ℕ) (b : L
   pub states-are : statesOf b ≡ n
   pub edges-are : edgesOf b ≡ startIn row n
   pub sets-are : setsOf b ≡ m
-  -- from s to s′ there is an edge exactly if s′ stands in row s
-  pub rows-are : (s s′ : ℕ) → s < n → (blockOf b .edge s s′ ≡ true) ↔ Stands (row s) s′
+  -- from s to s′ there is an edge exactly if s is a state and s′ stands in its row
+  pub rows-are : (s s′ : ℕ) → (blockOf b .edge s s′ ≡ true) ↔ ((s < n) × Stands (row s) s′)
   pub marks-are : (s : ℕ) → s < n → mark b s ≡ marks s
 
 -- no row is empty
@@ -116,6 +116,6 @@ module _ (m n : ℕ) (row : ℕ → List ℕ) (marks : ℕ → ℕ) (within : In
     states-are = states-is;
     edges-are = edges-is;
     sets-are = sets-is;
-    rows-are = λ s s′ h. let both = file.edge-read 1 m n row marks fits s s′ in (λ e. both .0 e .1, λ k. both .1 (h, k));
+    rows-are = file.edge-read 1 m n row marks fits;
     marks-are = file.mark-read 1 m n row marks fits;
   }
