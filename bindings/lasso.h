@@ -63,9 +63,9 @@ extern "C" {
 #endif
 
 /* The version of this header and of the library that it belongs to. The archive itself does not tell its version. */
-#define LASSO_VERSION "4.0.0"
+#define LASSO_VERSION "4.1.0"
 #define LASSO_VERSION_MAJOR 4
-#define LASSO_VERSION_MINOR 0
+#define LASSO_VERSION_MINOR 1
 #define LASSO_VERSION_PATCH 0
 
 /* The kind of a table file. */
@@ -116,12 +116,15 @@ static const struct lasso_board lasso_boards[LASSO_BOARDS] = {
     {'H', 65536, 1048576},
 };
 
-/* The numbers that are returned. Where more than one applies, the first in this order is given; the place is 0 where none is named. */
+/* The numbers that are returned. Where more than one line applies, the first in the list's order is given. That is the order here, not that of the
+ * numbers: 14 and 15 stand straight after 3. The place is 0 where none is named. */
 enum {
     LASSO_DONE = 0,
     LASSO_TOO_SHORT = 1,       /* fewer than 28 bytes */
     LASSO_WRONG_KIND = 2,      /* the kind is not 1 */
-    LASSO_WRONG_COUNT = 3,     /* states, edges or sets outside its range */
+    LASSO_WRONG_STATES = 3,    /* n, the number of states, is outside 1 to 64 */
+    LASSO_WRONG_EDGES = 14,    /* e, the number of edges, is outside 1 to 1,024 */
+    LASSO_WRONG_SETS = 15,     /* m, the number of fairness sets, is above 4 */
     LASSO_WRONG_LAYOUT = 4,    /* an offset or the length is not the computed one */
     LASSO_WRONG_ROW_START = 5, /* place: the first wrong row start, 0 to n */
     LASSO_WRONG_TARGET = 6,    /* place: the first wrong target, 0 to e-1 */
@@ -139,7 +142,9 @@ static inline const char *lasso_words(uint32_t number) {
     switch (number) {
     case LASSO_TOO_SHORT: return "fewer than 28 bytes";
     case LASSO_WRONG_KIND: return "kind is not 1";
-    case LASSO_WRONG_COUNT: return "n, e or m outside its range";
+    case LASSO_WRONG_STATES: return "n, the number of states, is outside 1 to 64";
+    case LASSO_WRONG_EDGES: return "e, the number of edges, is outside 1 to 1,024";
+    case LASSO_WRONG_SETS: return "m, the number of fairness sets, is above 4";
     case LASSO_WRONG_LAYOUT: return "an offset or the length is not the computed one";
     case LASSO_WRONG_ROW_START: return "a row start is wrong: first not 0, below the one before, above e, or last not e";
     case LASSO_WRONG_TARGET: return "a target is n or more, or not above the one before it in its row";

@@ -1,7 +1,9 @@
 //! The numbers of the refusals. What each means, and their order: [`REFUSALS`](crate::REFUSALS).
 pub const TOO_SHORT: u32 = 1;
 pub const WRONG_KIND: u32 = 2;
-pub const WRONG_COUNT: u32 = 3;
+pub const WRONG_STATES: u32 = 3;
+pub const WRONG_EDGES: u32 = 14;
+pub const WRONG_SETS: u32 = 15;
 pub const WRONG_LAYOUT: u32 = 4;
 pub const WRONG_ROW_START: u32 = 5;
 pub const WRONG_TARGET: u32 = 6;

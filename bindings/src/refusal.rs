@@ -38,7 +38,9 @@ pub struct Line {
 pub const REFUSALS: &[Line] = &[
     line(TOO_SHORT, "fewer than 28 bytes", Place::Unnamed),
     line(WRONG_KIND, "kind is not 1", Place::Unnamed),
-    line(WRONG_COUNT, "n, e or m outside its range", Place::Unnamed),
+    line(WRONG_STATES, "n, the number of states, is outside 1 to 64", Place::Unnamed),
+    line(WRONG_EDGES, "e, the number of edges, is outside 1 to 1,024", Place::Unnamed),
+    line(WRONG_SETS, "m, the number of fairness sets, is above 4", Place::Unnamed),
     line(WRONG_LAYOUT, "an offset or the length is not the computed one", Place::Unnamed),
     line(
         WRONG_ROW_START,

@@ -1,4 +1,4 @@
-//! Open: docs/RULES.md, "Refusal list", numbers 1 to 8, a loop for each line from 5 on.
+//! Open: docs/RULES.md, the table's own lines of "Refusal list", a loop for each of 5 to 8.
 
 use crate::shared::parts::{number, refused, Parts};
 use lasso::{Refusal, Table};

@@ -1,5 +1,5 @@
-//! A table taken apart into its three sections: docs/RULES.md, "The table file", refusals 1 to 4. The sizes of the recorded table:
-//! "Translated table".
+//! A table taken apart into its three sections: docs/RULES.md, "The table file", and the refusals of a header and a length, 1, 2, 3, 14, 15 and 4. The
+//! sizes of the recorded table: "Translated table".
 
 use lasso::{Refusal, Table};
 
@@ -35,8 +35,14 @@ impl<'a> Parts<'a> {
             return refused(2, 0);
         }
         let (n, e, m) = (at(1), at(2), at(3));
-        if !(1..=64).contains(&n) || !(1..=1024).contains(&e) || m > 4 {
+        if !(1..=64).contains(&n) {
             return refused(3, 0);
+        }
+        if !(1..=1024).contains(&e) {
+            return refused(14, 0);
+        }
+        if m > 4 {
+            return refused(15, 0);
         }
         if at(4) != 28 || at(5) != 32 + 4 * n || at(6) != 32 + 4 * n + 4 * e || table.len() != 32 + 5 * n + 4 * e {
             return refused(4, 0);

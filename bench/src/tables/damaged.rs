@@ -1,4 +1,4 @@
-//! Tables that are refused: docs/RULES.md, "Refusal list", numbers 1 to 8.
+//! Tables that are refused: docs/RULES.md, the table's own lines of "Refusal list".
 
 use super::sketch::Sketch;
 use crate::random::Random;

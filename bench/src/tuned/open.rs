@@ -1,4 +1,4 @@
-//! Open: docs/RULES.md, "The table file" and refusals 1 to 8.
+//! Open: docs/RULES.md, "The table file" and the table's own lines of "Refusal list".
 //!
 //! A good table is told by loops without early exits, which the compiler can turn into vector code. Only a table that fails there is read a second
 //! time, line by line of the refusal list, to find the number and the place.

@@ -34,9 +34,9 @@ fn the_largest_table_needs_the_largest_buffers() {
 
 #[test]
 fn one_more_is_refused() {
-    assert_eq!(refused(open(&filled(MOST_STATES + 1, MOST_EDGES, MOST_SETS))), WRONG_COUNT);
-    assert_eq!(refused(open(&filled(MOST_STATES, MOST_EDGES + 1, MOST_SETS))), WRONG_COUNT);
-    assert_eq!(refused(open(&filled(MOST_STATES, MOST_EDGES, MOST_SETS + 1))), WRONG_COUNT);
+    assert_eq!(refused(open(&filled(MOST_STATES + 1, MOST_EDGES, MOST_SETS))), WRONG_STATES);
+    assert_eq!(refused(open(&filled(MOST_STATES, MOST_EDGES + 1, MOST_SETS))), WRONG_EDGES);
+    assert_eq!(refused(open(&filled(MOST_STATES, MOST_EDGES, MOST_SETS + 1))), WRONG_SETS);
 }
 
 #[test]

@@ -1,4 +1,4 @@
-// Lines 1 to 4 of the refusal list: the length, the kind, the counts and the layout.
+// Lines 1, 2, 3, 14, 15 and 4 of the refusal list: the length, the kind, the counts and the layout.
 use super::base::first_bytes;
 use super::base::with;
 use super::builder;
@@ -54,7 +54,7 @@ fn states() {
     with(b"states 4294967295", STATES, 4294967295);
 }
 
-// The same of e.
+// Line 14: the same of e.
 fn edges() {
     with(b"edges 0", EDGES, 0);
     counted(b"edges 0 of 1 state", 1, 0, 0);
@@ -64,7 +64,7 @@ fn edges() {
     with(b"edges 4294967295", EDGES, 4294967295);
 }
 
-// The same of m, and then the largest table.
+// Line 15: the same of m, and then the largest table.
 fn sets() {
     counted(b"sets 4", 4, 8, 4);
     counted(b"sets 5", 4, 8, 5);

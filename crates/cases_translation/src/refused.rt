@@ -1,4 +1,4 @@
-// Refused tables: lines 1 to 8 of docs/RULES.md, "Refusal list", come before line 11, and the output stays. The places in the bytes are
+// Refused tables: the table's own lines of docs/RULES.md, "Refusal list", come before line 11, and the output stays. The places in the bytes are
 // those of "The table file": in table a the row starts stand from 28 on, the targets from 48 on, the marks from 80 on.
 use super::room::case;
 
@@ -30,6 +30,8 @@ fn each_line(n: usize) {
     cut(n);
     with(b"kind 2", 0, 2, n);
     with(b"n 65", 4, 65, n);
+    with(b"e 0", 8, 0, n);
+    with(b"m 5", 12, 5, n);
     with(b"row start 2 is 9", 36, 9, n);
     with(b"target 5 is 4", 68, 4, n);
     empty_row(n);

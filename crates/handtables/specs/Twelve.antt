@@ -19,7 +19,7 @@ use Rattle.recorder.specs.Listing.{startSlots, nextSlots, badSlot, listing}
 use Rattle.recorder.specs.Least.{least-of-block}
 use Rattle.table.specs.First.{firstFrom, firstIn}
 use Rattle.table.specs.Layout.{wordAt, rowStart, target, mark}
-use Rattle.table.specs.Open.{countsFit, layoutFits, rowStartWrong, opensRow, targetWrong, rowEmpty, markWrong, countLines, rowLines, contentLines, linesOf, openedBy, openOf}
+use Rattle.table.specs.Open.{outside, layoutFits, rowStartWrong, opensRow, targetWrong, rowEmpty, markWrong, countLines, rowLines, contentLines, linesOf, openedBy, openOf}
 use Rattle.table.specs.BlockOf.{edgeAt, blockOf}
 use Rattle.table.specs.WellFormed.{well-formed}
 use Rattle.table.specs.Sound.{sound}
@@ -130,7 +130,7 @@ all-hold (s ∷ rs) e r (List·Memᴰ·tail m) = all-hold rs (both (fits s) _ e 
 
 -- all twelve pass
 passed : allFit handRows ≡ true
-unfolding allFit fits acceptedAs sameQuote answerTest tableIn quoteIn same safeTest foundTest startSlots nextSlots picked tieOf slotOf recordOfSlot slotCount bytesOf openOf openedBy linesOf countLines rowLines contentLines firstIn firstFrom countsFit layoutFits rowStartWrong targetWrong rowEmpty markWrong opensRow wordAt rowStart target mark edgeAt blockOf quoteOf sheetOf membersOf countBelow edgeCount boardOf hasRoom boards
+unfolding allFit fits acceptedAs sameQuote answerTest tableIn quoteIn same safeTest foundTest startSlots nextSlots picked tieOf slotOf recordOfSlot slotCount bytesOf openOf openedBy linesOf countLines rowLines contentLines firstIn firstFrom outside layoutFits rowStartWrong targetWrong rowEmpty markWrong opensRow wordAt rowStart target mark edgeAt blockOf quoteOf sheetOf membersOf countBelow edgeCount boardOf hasRoom boards
 passed = refl
 
 -- the twelve rows hold

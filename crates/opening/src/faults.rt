@@ -1,24 +1,22 @@
-// The tests of the refusal list's lines 3 to 8, one function a line. docs/RULES.md, "Refusal list".
+// The tests of lines 3, 14 and 15, one for the three counts, and of lines 4 to 8, one function a line. docs/RULES.md, "Refusal list".
 ghost use mathlib.Core.Path.{_≡_};
 ghost use Prim.Native.Nat.{ℕ, _+_, _≤_, _<_};
 ghost use lib.Dec.{eqb};
 ghost use lib.ListN.{length};
 ghost use Rattle.table.specs.First.{firstIn};
 ghost use Rattle.table.specs.Layout.{statesOf, edgesOf};
-ghost use Rattle.table.specs.Open.{countsFit, layoutFits, rowStartWrong, opensRow, targetWrong, rowEmpty, markWrong};
+ghost use Rattle.table.specs.Open.{outside, layoutFits, rowStartWrong, opensRow, targetWrong, rowEmpty, markWrong};
 ghost use Rattle.table.specs.LaidOut.{LaidOut};
 ghost use Rattle.table.specs.Answers.{foundOf};
 ghost use Rattle.table.specs.Rows.{RowsRight};
 use table::Found;
 use table::Table;
 
-// Line 3: n, e and m are inside their ranges.
-pub(crate) fn counts_fit(t: Table) -> bool
-    ensures { λ r. ⌜ r ≡ countsFit (t .states) (t .edges) (t .sets) ⌝ }
+// Lines 3, 14 and 15: the count x is outside low to high.
+pub(crate) fn outside(x: usize, low: usize, high: usize) -> bool
+    ensures { λ r. ⌜ r ≡ outside x low high ⌝ }
 {
-    let n = t.states;
-    let e = t.edges;
-    ((1 <= n) & (n <= 64)) & ((1 <= e) & (e <= 1024)) & (t.sets <= 4)
+    (x < low) | (high < x)
 }
 
 // Line 4: the offsets and the length are the computed ones.

@@ -10,7 +10,7 @@ use table::Opened;
 use table::Refusal;
 use table::Table;
 
-// Lines 1 to 3: the header is of a client's table, and its counts are inside their ranges.
+// Lines 1, 2, 3, 14 and 15: the header is of a client's table, and each of its counts is inside its range.
 fn counted(bytes: &[u8]) -> Opened
     ensures { λ r. ⌜ r ≡ openedBy (now (bytes .entry)) (countLines (now (bytes .entry))) ⌝ }
 {
@@ -25,8 +25,14 @@ fn counted(bytes: &[u8]) -> Opened
         edges: table::word(bytes, 8),
         sets: table::word(bytes, 12),
     };
-    if !faults::counts_fit(t) {
-        return Opened::Refused(Refusal::WrongCount);
+    if faults::outside(t.states, 1, 64) {
+        return Opened::Refused(Refusal::WrongStates);
+    }
+    if faults::outside(t.edges, 1, 1024) {
+        return Opened::Refused(Refusal::WrongEdges);
+    }
+    if faults::outside(t.sets, 0, 4) {
+        return Opened::Refused(Refusal::WrongSets);
     }
     Opened::Accepted(t)
 }

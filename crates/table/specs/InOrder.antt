@@ -1,5 +1,5 @@
 -- The refusal list's order, and that every job goes down it. docs/RULES.md, "Refusal list": of the lines that apply, the first in the list is given.
--- The order is that of positions in the list, not of numbers, so a line may be put in between. First the definitions, then the laws, over any list
+-- The order is that of positions in the list, not of numbers: 14 and 15 stand straight after 3. First the definitions, then the laws, over any list
 -- of lines. Assumes nothing.
 use mathlib.Core.Path.{_≡_, refl, sym}
 use mathlib.Core.Bool.{Bool, true, false, not}
@@ -14,15 +14,15 @@ use Rattle.table.specs.First.{firstIn}
 use Rattle.table.specs.Given.{given, givenAt, firstGiven}
 use Rattle.table.specs.Layout.{kindOf, statesOf, edgesOf, setsOf}
 use Rattle.table.specs.Refusals.{numberOf}
-use Rattle.table.specs.Open.{countsFit, layoutFits, rowStartWrong, targetWrong, rowEmpty, markWrong, countLines, rowLines, contentLines, refusalFor, answerOf, linesOf, openedBy, openOf}
+use Rattle.table.specs.Open.{outside, layoutFits, rowStartWrong, targetWrong, rowEmpty, markWrong, countLines, rowLines, contentLines, refusalFor, answerOf, linesOf, openedBy, openOf}
 use Rattle.table.specs.declared.refusal.Refusal.{Refusal}
-use Rattle.table.specs.declared.refusal.Refusal.the-variants.{TooShort, WrongKind, WrongCount, WrongLayout, WrongRowStart, WrongTarget, EmptyRow, WrongMark, ShortWorkspace, ShortReport, ShortOutput, WrongRecord, NoEdge}
+use Rattle.table.specs.declared.refusal.Refusal.the-variants.{TooShort, WrongKind, WrongStates, WrongEdges, WrongSets, WrongLayout, WrongRowStart, WrongTarget, EmptyRow, WrongMark, ShortWorkspace, ShortReport, ShortOutput, WrongRecord, NoEdge}
 
 -- ---- the definitions
 
 -- the numbers of the list, from its first line to its last
 abbrev pub listNumbers : List ℕ
-listNumbers = 1 ∷ 2 ∷ 3 ∷ 4 ∷ 5 ∷ 6 ∷ 7 ∷ 8 ∷ 9 ∷ 10 ∷ 11 ∷ 12 ∷ 13 ∷ []
+listNumbers = 1 ∷ 2 ∷ 3 ∷ 14 ∷ 15 ∷ 4 ∷ 5 ∷ 6 ∷ 7 ∷ 8 ∷ 9 ∷ 10 ∷ 11 ∷ 12 ∷ 13 ∷ []
 
 -- how many numbers stand before x in the list
 abbrev pub countBefore : ℕ → List ℕ → ℕ
@@ -63,7 +63,9 @@ pub record ByTheList (b : List ℕ) (ls : List (Option Refusal)) (why : Option R
 pub in-the-list : (r : Refusal) → positionOf r < length listNumbers
 in-the-list TooShort = omega arith
 in-the-list WrongKind = omega arith
-in-the-list WrongCount = omega arith
+in-the-list WrongStates = omega arith
+in-the-list WrongEdges = omega arith
+in-the-list WrongSets = omega arith
 in-the-list WrongLayout = omega arith
 in-the-list (WrongRowStart i) = omega arith
 in-the-list (WrongTarget i) = omega arith
@@ -76,7 +78,7 @@ in-the-list WrongRecord = omega arith
 in-the-list NoEdge = omega arith
 
 -- lines that are given stand where they must
-past : (p : ℕ) (ls : List (Option Refusal)) → InOrderFrom p ls → (r : Refusal) → GivenIn r ls → p ≤ positionOf r
+pub past : (p : ℕ) (ls : List (Option Refusal)) → InOrderFrom p ls → (r : Refusal) → GivenIn r ls → p ≤ positionOf r
 past p [] end r g = absurd g
 past p (none ∷ ls) (off k) r (inl q) = absurd (Option·some-ne-none r (sym q))
 past p (none ∷ ls) (off k) r (inr g) = past p ls k r g
@@ -113,20 +115,44 @@ line-at p (some i) r ls e h k = let c : p ≤ positionOf (r i) = rw (e i) h in l
 
 -- ---- the table's lines, and after them a job's own
 
-lines-in-order : (b : List ℕ) (ls : List (Option Refusal)) → InOrderFrom (positionAfter (WrongMark 0)) ls → InOrder (linesOf b ++ ls)
-unfolding linesOf countLines rowLines contentLines
-lines-in-order b ls k =
-    line 0 (ltb (length b) 28) TooShort _ (omega arith)
-    (line (positionAfter TooShort) (not (eqb (kindOf b) 1)) WrongKind _ (omega arith)
-    (line (positionAfter WrongKind) (not (countsFit (statesOf b) (edgesOf b) (setsOf b))) WrongCount _ (omega arith)
-    (line (positionAfter WrongCount) (not (layoutFits b)) WrongLayout _ (omega arith)
-    (line-at (positionAfter WrongLayout) (firstIn 0 (statesOf b + 1) (rowStartWrong b)) WrongRowStart _ (λ i. refl) (omega arith)
-    (line-at (positionAfter (WrongRowStart 0)) (firstIn 0 (edgesOf b) (targetWrong b)) WrongTarget _ (λ i. refl) (omega arith)
-    (line-at (positionAfter (WrongTarget 0)) (firstIn 0 (statesOf b) (rowEmpty b)) EmptyRow _ (λ i. refl) (omega arith)
-    (line-at (positionAfter (EmptyRow 0)) (firstIn 0 (statesOf b) (markWrong b)) WrongMark ls (λ i. refl) (omega arith) k)))))))
+module _ (b : List ℕ) (ls : List (Option Refusal)) where
+  -- the lines after each count's, and from that of the states on: the parts of `linesOf` that the laws below go through
+  abbrev pub afterSets : List (Option Refusal)
+  afterSets = (rowLines b ++ contentLines b) ++ ls
+
+  abbrev pub afterEdges : List (Option Refusal)
+  afterEdges = given (outside (setsOf b) 0 4) WrongSets ∷ afterSets
+
+  abbrev pub afterStates : List (Option Refusal)
+  afterStates = given (outside (edgesOf b) 1 1024) WrongEdges ∷ afterEdges
+
+  abbrev pub fromStates : List (Option Refusal)
+  fromStates = given (outside (statesOf b) 1 64) WrongStates ∷ afterStates
+
+  pub after-sets : InOrderFrom (positionAfter (WrongMark 0)) ls → InOrderFrom (positionAfter WrongSets) afterSets
+  unfolding rowLines contentLines
+  after-sets k =
+      line (positionAfter WrongSets) (not (layoutFits b)) WrongLayout _ (omega arith)
+      (line-at (positionAfter WrongLayout) (firstIn 0 (statesOf b + 1) (rowStartWrong b)) WrongRowStart _ (λ i. refl) (omega arith)
+      (line-at (positionAfter (WrongRowStart 0)) (firstIn 0 (edgesOf b) (targetWrong b)) WrongTarget _ (λ i. refl) (omega arith)
+      (line-at (positionAfter (WrongTarget 0)) (firstIn 0 (statesOf b) (rowEmpty b)) EmptyRow _ (λ i. refl) (omega arith)
+      (line-at (positionAfter (EmptyRow 0)) (firstIn 0 (statesOf b) (markWrong b)) WrongMark ls (λ i. refl) (omega arith) k))))
+
+  pub after-edges : InOrderFrom (positionAfter (WrongMark 0)) ls → InOrderFrom (positionAfter WrongEdges) afterEdges
+  after-edges k = line (positionAfter WrongEdges) (outside (setsOf b) 0 4) WrongSets _ (omega arith) (after-sets k)
+
+  pub after-states : InOrderFrom (positionAfter (WrongMark 0)) ls → InOrderFrom (positionAfter WrongStates) afterStates
+  after-states k = line (positionAfter WrongStates) (outside (edgesOf b) 1 1024) WrongEdges _ (omega arith) (after-edges k)
+
+  lines-in-order : InOrderFrom (positionAfter (WrongMark 0)) ls → InOrder (linesOf b ++ ls)
+  unfolding linesOf countLines
+  lines-in-order k =
+      line 0 (ltb (length b) 28) TooShort _ (omega arith)
+      (line (positionAfter TooShort) (not (eqb (kindOf b) 1)) WrongKind _ (omega arith)
+      (line (positionAfter WrongKind) (outside (statesOf b) 1 64) WrongStates _ (omega arith) (after-states k)))
 
 -- what a job refuses is the first line that is given, of the table's lines and then its own
-down-the-list : (b : List ℕ) (ls : List (Option Refusal)) → refusalFor (openOf b) ls ≡ firstGiven (linesOf b ++ ls)
+pub down-the-list : (b : List ℕ) (ls : List (Option Refusal)) → refusalFor (openOf b) ls ≡ firstGiven (linesOf b ++ ls)
 unfolding openOf openedBy
 down-the-list b ls = go (linesOf b)
   where

@@ -1,16 +1,20 @@
--- What lines 1 to 4 of the refusal list leave: the counts are the header's and inside their ranges, and the length is theirs. The scans of
+-- What the lines of the refusal list from the first down to 4 leave: the counts are the header's and inside their ranges, and the length is theirs. The scans of
 -- lines 5 to 8 need this to read inside the bytes. Assumes nothing.
 use mathlib.Core.Path.{_≡_, ap}
-use mathlib.Core.Bool.{true}
+use mathlib.Core.Bool.{true, false}
 use mathlib.Core.Logic.{_↔_, Iff·rfl}
 use mathlib.Core.List.{List}
 use Prim.Native.Nat.{ℕ, _≤_}
 use native.Mathlib.Omega.{arith}
 use lib.ListN.{length}
 use Rattle.table.specs.Layout.{statesOf, edgesOf, setsOf, rowsOffset, targetsOffset, marksOffset, rowsAt, targetsAt, marksAt, lengthOf, tableOf}
-use Rattle.table.specs.Open.{countsFit, layoutFits}
+use Rattle.table.specs.Open.{outside, layoutFits}
 use Rattle.table.specs.Facts.{facts}
 use Rattle.table.specs.declared.Table.{Table}
+
+-- x is inside low to high
+abbrev pub InRange : ℕ → ℕ → ℕ → Type 0
+InRange x low high = (low ≤ x) × (x ≤ high)
 
 pub record LaidOut (b : List ℕ) (t : Table) : Type 0 where
   pub states-are : t .states ≡ statesOf b
@@ -29,9 +33,9 @@ table-is b t s e m = λ i. record { states = s i; edges = e i; sets = m i }
 
 -- so a table is laid out where it is the header's, its counts are inside their ranges and the length is theirs
 pub laid-by : (b : List ℕ) (t : Table) → t ≡ tableOf b
-    → (((1 ≤ statesOf b) × (statesOf b ≤ 64)) × ((1 ≤ edgesOf b) × (edgesOf b ≤ 1024))) × (setsOf b ≤ 4)
+    → InRange (statesOf b) 1 64 → InRange (edgesOf b) 1 1024 → setsOf b ≤ 4
     → length b ≡ lengthOf (statesOf b) (edgesOf b) → LaidOut b t
-laid-by b t e counts size =
+laid-by b t e states edges sets size =
     let s : t .states ≡ statesOf b = ap (λ (t : Table). t .states) e in
     let d : t .edges ≡ edgesOf b = ap (λ (t : Table). t .edges) e in
     let m : t .sets ≡ setsOf b = ap (λ (t : Table). t .sets) e in
@@ -47,12 +51,11 @@ laid-by b t e counts size =
       size = omega arith;
     }
 
--- ---- what lines 3 and 4 say where they are not given, nested as the tests are
+-- ---- what a count's line and line 4 say where they are not given, nested as the tests are
 
-pub counts-right : (b : List ℕ) → (countsFit (statesOf b) (edgesOf b) (setsOf b) ≡ true)
-    ↔ ((((1 ≤ statesOf b) × (statesOf b ≤ 64)) × ((1 ≤ edgesOf b) × (edgesOf b ≤ 1024))) × (setsOf b ≤ 4))
-unfolding countsFit
-counts-right b = simp facts Iff·rfl
+pub inside : (x low high : ℕ) → (outside x low high ≡ false) ↔ InRange x low high
+unfolding outside
+inside x low high = simp facts Iff·rfl
 
 pub layout-right : (b : List ℕ) → (layoutFits b ≡ true)
     ↔ ((((rowsOffset b ≡ rowsAt) × (targetsOffset b ≡ targetsAt (statesOf b))) × (marksOffset b ≡ marksAt (statesOf b) (edgesOf b)))

@@ -10,6 +10,7 @@ pub mod BlockOf
 pub mod Bits
 pub mod Facts
 pub mod LaidOut
+pub mod WhichCount
 pub mod Answers
 pub mod Inside
 pub mod Rows

@@ -1,5 +1,5 @@
--- Which tables are accepted, and which refusal every other gets. docs/RULES.md, "The table file" and lines 1 to 8 of "Refusal list".
--- Definitions only. Assumes nothing.
+-- Which tables are accepted, and which refusal every other gets. docs/RULES.md, "The table file" and the table's own lines of "Refusal
+-- list". A line is named by its number. Definitions only. Assumes nothing.
 use mathlib.Core.Bool.{Bool, true, false, not, _&&_, _||_}
 use mathlib.Core.List.{List, [], _∷_, _++_}
 use mathlib.Core.Option.{Option, none, some}
@@ -10,15 +10,15 @@ use Rattle.table.specs.First.{firstIn, isSome}
 use Rattle.table.specs.Given.{given, givenAt, firstGiven}
 use Rattle.table.specs.Layout.{kindOf, statesOf, edgesOf, setsOf, rowsOffset, targetsOffset, marksOffset, rowsAt, targetsAt, marksAt, lengthOf, tableOf, rowStart, target, mark}
 use Rattle.table.specs.declared.refusal.Refusal.{Refusal}
-use Rattle.table.specs.declared.refusal.Refusal.the-variants.{TooShort, WrongKind, WrongCount, WrongLayout, WrongRowStart, WrongTarget, EmptyRow, WrongMark}
+use Rattle.table.specs.declared.refusal.Refusal.the-variants.{TooShort, WrongKind, WrongStates, WrongEdges, WrongSets, WrongLayout, WrongRowStart, WrongTarget, EmptyRow, WrongMark}
 use Rattle.table.specs.declared.Opened.{Opened}
 use Rattle.table.specs.declared.Opened.the-variants.{Accepted, Refused}
 
 -- ---- the tests
 
--- n is 1 to 64, e is 1 to 1,024, m is 0 to 4
-unfoldable pub countsFit : ℕ → ℕ → ℕ → Bool
-countsFit n e m = (leb 1 n && leb n 64) && (leb 1 e && leb e 1024) && leb m 4
+-- x is outside low to high
+unfoldable pub outside : ℕ → ℕ → ℕ → Bool
+outside x low high = ltb x low || ltb high x
 
 -- the three offsets and the length are the computed ones
 unfoldable pub layoutFits : List ℕ → Bool
@@ -54,12 +54,14 @@ markWrong b s = leb (2 ^ (2 + setsOf b)) (mark b s)
 
 -- ---- the list
 
--- lines 1 to 3: the header and its counts
+-- lines 1, 2, 3, 14 and 15: the header, and its counts n, e and m
 unfoldable pub countLines : List ℕ → List (Option Refusal)
 countLines b =
     given (ltb (length b) 28) TooShort
     ∷ given (not (eqb (kindOf b) 1)) WrongKind
-    ∷ given (not (countsFit (statesOf b) (edgesOf b) (setsOf b))) WrongCount
+    ∷ given (outside (statesOf b) 1 64) WrongStates
+    ∷ given (outside (edgesOf b) 1 1024) WrongEdges
+    ∷ given (outside (setsOf b) 0 4) WrongSets
     ∷ []
 
 -- lines 4 and 5: layout and row starts
@@ -77,7 +79,7 @@ contentLines b =
     ∷ givenAt (firstIn 0 (statesOf b) (markWrong b)) WrongMark
     ∷ []
 
--- lines 1 to 8, in the list's order
+-- the table's own lines, in the list's order
 unfoldable pub linesOf : List ℕ → List (Option Refusal)
 linesOf b = (countLines b ++ rowLines b) ++ contentLines b
 

@@ -1,6 +1,6 @@
--- Going down the refusal list by stages: lines 1 to 3 (the counts), 4 and 5 (layout and row starts), 6 to 8 (targets, empty rows and marks). For each stage: the
--- line that is given, by the tests before it in that stage, and what is known where none is. A stage's answer is that of the lines up to its end.
--- Assumes nothing.
+-- Going down the refusal list by stages: lines 1, 2, 3, 14 and 15 (the counts), 4 and 5 (layout and row starts), 6 to 8 (targets, empty rows and
+-- marks). For each stage: the line that is given, by the tests before it in that stage, and what is known where none is. A stage's answer is that of
+-- the lines up to its end. Assumes nothing.
 use mathlib.Core.Path.{_≡_, refl, sym, ap, _∙_}
 use mathlib.Core.Bool.{true, false}
 use mathlib.Core.List.{List, _++_}
@@ -12,15 +12,15 @@ use lib.ListN.{length}
 use Rattle.table.specs.First.{firstIn}
 use Rattle.table.specs.Given.{firstGiven, test-off, index-off, none-given, part-on, part-off}
 use Rattle.table.specs.Layout.{kindOf, statesOf, edgesOf, setsOf, tableOf}
-use Rattle.table.specs.Open.{countsFit, layoutFits, rowStartWrong, targetWrong, rowEmpty, markWrong, countLines, rowLines, contentLines, answerOf, openedBy}
+use Rattle.table.specs.Open.{outside, layoutFits, rowStartWrong, targetWrong, rowEmpty, markWrong, countLines, rowLines, contentLines, answerOf, openedBy}
 use Rattle.table.specs.Facts.{facts}
-use Rattle.table.specs.LaidOut.{LaidOut, laid-by, counts-right, layout-right}
+use Rattle.table.specs.LaidOut.{InRange, LaidOut, laid-by, inside, layout-right}
 use Rattle.table.specs.Rows.{RowsRight, row-starts-right}
 use Rattle.table.specs.declared.Table.{Table}
 use Rattle.table.specs.declared.Opened.{Opened}
 use Rattle.table.specs.declared.Opened.the-variants.{Accepted, Refused}
 use Rattle.table.specs.declared.refusal.Refusal.{Refusal}
-use Rattle.table.specs.declared.refusal.Refusal.the-variants.{TooShort, WrongKind, WrongCount, WrongLayout, WrongRowStart, WrongTarget, EmptyRow, WrongMark}
+use Rattle.table.specs.declared.refusal.Refusal.the-variants.{TooShort, WrongKind, WrongStates, WrongEdges, WrongSets, WrongLayout, WrongRowStart, WrongTarget, EmptyRow, WrongMark}
 
 -- ---- a stage's answer
 
@@ -61,7 +61,7 @@ pub next-accepts : (b : List ℕ) (xs ys : List (Option Refusal)) (t : Table) �
 next-accepts b xs ys t h e = stage-accepts b (xs ++ ys) t (part-off xs ys h ∙ e)
 
 module _ (b : List ℕ) where
-  -- ---- lines 1 to 3
+  -- ---- lines 1, 2, 3, 14 and 15
 
   pub too-short : ltb (length b) 28 ≡ true → firstGiven (countLines b) ≡ some TooShort
   unfolding countLines
@@ -71,25 +71,38 @@ module _ (b : List ℕ) where
   unfolding countLines
   wrong-kind l e = simp (l, e)
 
-  pub wrong-count : ltb (length b) 28 ≡ false → eqb (kindOf b) 1 ≡ true → countsFit (statesOf b) (edgesOf b) (setsOf b) ≡ false
-      → firstGiven (countLines b) ≡ some WrongCount
+  pub wrong-states : ltb (length b) 28 ≡ false → eqb (kindOf b) 1 ≡ true → outside (statesOf b) 1 64 ≡ true
+      → firstGiven (countLines b) ≡ some WrongStates
   unfolding countLines
-  wrong-count l k e = simp (l, k, e)
+  wrong-states l k e = simp (l, k, e)
 
-  pub counts-off : ltb (length b) 28 ≡ false → eqb (kindOf b) 1 ≡ true → countsFit (statesOf b) (edgesOf b) (setsOf b) ≡ true
-      → firstGiven (countLines b) ≡ none
+  pub wrong-edges : ltb (length b) 28 ≡ false → eqb (kindOf b) 1 ≡ true → outside (statesOf b) 1 64 ≡ false → outside (edgesOf b) 1 1024 ≡ true
+      → firstGiven (countLines b) ≡ some WrongEdges
   unfolding countLines
-  counts-off l k e = simp (l, k, e)
+  wrong-edges l k s e = simp (l, k, s, e)
+
+  pub wrong-sets : ltb (length b) 28 ≡ false → eqb (kindOf b) 1 ≡ true → outside (statesOf b) 1 64 ≡ false → outside (edgesOf b) 1 1024 ≡ false
+      → outside (setsOf b) 0 4 ≡ true → firstGiven (countLines b) ≡ some WrongSets
+  unfolding countLines
+  wrong-sets l k s d e = simp (l, k, s, d, e)
+
+  pub counts-off : ltb (length b) 28 ≡ false → eqb (kindOf b) 1 ≡ true → outside (statesOf b) 1 64 ≡ false → outside (edgesOf b) 1 1024 ≡ false
+      → outside (setsOf b) 0 4 ≡ false → firstGiven (countLines b) ≡ none
+  unfolding countLines
+  counts-off l k s d e = simp (l, k, s, d, e)
 
   -- what they leave
   pub record Counted : Type 0 where
     pub long : 28 ≤ length b
     pub kind : kindOf b ≡ 1
-    pub counts : (((1 ≤ statesOf b) × (statesOf b ≤ 64)) × ((1 ≤ edgesOf b) × (edgesOf b ≤ 1024))) × (setsOf b ≤ 4)
+    pub states : InRange (statesOf b) 1 64
+    pub edges : InRange (edgesOf b) 1 1024
+    pub sets : setsOf b ≤ 4
 
   pub counted : firstGiven (countLines b) ≡ none → Counted
   unfolding countLines
-  counted = simp (none-given, test-off, facts, counts-right) (λ (long, (kind, (counts, rest))). record { long = long; kind = kind; counts = counts })
+  counted = simp (none-given, test-off, facts, inside)
+      (λ (long, (kind, (states, (edges, (sets, rest))))). record { long = long; kind = kind; states = states; edges = edges; sets = sets .1 })
 
   -- ---- lines 4 and 5
 
@@ -108,7 +121,7 @@ module _ (b : List ℕ) where
 
   -- what the counts and the layout leave
   pub laid-out : Counted → layoutFits b ≡ true → (t : Table) → t ≡ tableOf b → LaidOut b t
-  laid-out c l t e = laid-by b t e (c .counts) (layout-right b .0 l .1)
+  laid-out c l t e = laid-by b t e (c .states) (c .edges) (c .sets) (layout-right b .0 l .1)
 
   -- what they leave
   pub rows-leave : firstGiven (rowLines b) ≡ none → (layoutFits b ≡ true) × RowsRight b

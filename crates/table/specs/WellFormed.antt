@@ -14,7 +14,7 @@ use Rattle.table.specs.Layout.{kindOf, statesOf, edgesOf, setsOf, rowsOf
 use Rattle.table.specs.Open.{rowEmpty, markWrong, countLines, rowLines, contentLines, linesOf, openOf, whyOf}
 use Rattle.table.specs.Bits.{low-bits}
 use Rattle.table.specs.Facts.{facts}
-use Rattle.table.specs.LaidOut.{LaidOut, laid-by, counts-right, layout-right}
+use Rattle.table.specs.LaidOut.{LaidOut, laid-by, inside, layout-right}
 use Rattle.table.specs.Rows.{RowsRight, row-starts-right}
 use Rattle.table.specs.Targets.{targets-right}
 use Rattle.table.specs.Stages.{stage-accepts, accepts-says}
@@ -57,14 +57,29 @@ marks-right b = simp (first-none, facts, low-bits) (λ h s l. h s zero-le l, λ 
 
 -- ---- the list
 
--- no line is given where the table is well-formed: but for the targets, each part is found by its statement
+-- no line is given where the table is well-formed: the parts of the header are named, the others found by their statements, but for the targets
 lines-off : (b : List ℕ) → (firstGiven (linesOf b) ≡ none) ↔ WellFormed b
 unfolding linesOf countLines rowLines contentLines
 lines-off b =
-    simp (none-given, test-off, index-off, facts, counts-right, layout-right, row-starts-right, rows-not-empty, marks-right) (
-      λ (header, (kind, (counts, (layout, (rows, (targets, rest)))))).
+    simp (none-given, test-off, index-off, facts, inside, layout-right, row-starts-right, rows-not-empty, marks-right) (
+      λ (header, (kind, (states, (edges, (sets, (layout, (rows, (targets, rest)))))))).
           let (targets-in, targets-rise) = targets-right b rows .0 targets in search targets-in,
-      λ w. search (targets-right b (w .rows) .1 (w .targets-in, w .targets-rise)),
+      λ w. (
+        w .header,
+        (
+          w .kind,
+          (
+            (w .states-from, w .states-to),
+            (
+              (w .edges-from, w .edges-to),
+              (
+                (zero-le, w .sets-to),
+                search (targets-right b (w .rows) .1 (w .targets-in, w .targets-rise)),
+              ),
+            ),
+          ),
+        ),
+      ),
     )
 
 pub accepted : (b : List ℕ) → (openOf b ≡ Accepted (tableOf b)) ↔ WellFormed b
@@ -84,7 +99,7 @@ well-formed b t e = accepted b .0 (e ∙ ap Accepted (accepted-table b t e))
 pub laid : (b : List ℕ) (t : Table) → openOf b ≡ Accepted t → LaidOut b t
 laid b t e =
     let w = well-formed b t e in
-    laid-by b t (accepted-table b t e) (((w .states-from, w .states-to), (w .edges-from, w .edges-to)), w .sets-to) (w .size)
+    laid-by b t (accepted-table b t e) (w .states-from, w .states-to) (w .edges-from, w .edges-to) (w .sets-to) (w .size)
 
 -- what `open` says settles its answer
 pub open-settled : (b : List ℕ) (x y : Opened) → x ≡ openOf b → y ≡ openOf b → x ≡ y

@@ -1,4 +1,4 @@
-// The refusal list as an enum, with its numbers and places. docs/RULES.md, "Refusal list".
+// The refusal list as an enum, with its numbers and places, in the list's order. docs/RULES.md, "Refusal list".
 ghost use mathlib.Core.Path.{_≡_};
 ghost use Rattle.table.specs.Refusals.{numberOf, placeOf};
 
@@ -6,7 +6,9 @@ ghost use Rattle.table.specs.Refusals.{numberOf, placeOf};
 pub enum Refusal {
     TooShort,
     WrongKind,
-    WrongCount,
+    WrongStates,
+    WrongEdges,
+    WrongSets,
     WrongLayout,
     WrongRowStart(usize),
     WrongTarget(usize),
@@ -26,7 +28,9 @@ impl Refusal {
         match self {
             Refusal::TooShort => 1,
             Refusal::WrongKind => 2,
-            Refusal::WrongCount => 3,
+            Refusal::WrongStates => 3,
+            Refusal::WrongEdges => 14,
+            Refusal::WrongSets => 15,
             Refusal::WrongLayout => 4,
             Refusal::WrongRowStart(_) => 5,
             Refusal::WrongTarget(_) => 6,
@@ -47,7 +51,9 @@ impl Refusal {
         match self {
             Refusal::TooShort => 0,
             Refusal::WrongKind => 0,
-            Refusal::WrongCount => 0,
+            Refusal::WrongStates => 0,
+            Refusal::WrongEdges => 0,
+            Refusal::WrongSets => 0,
             Refusal::WrongLayout => 0,
             Refusal::WrongRowStart(i) => i,
             Refusal::WrongTarget(i) => i,

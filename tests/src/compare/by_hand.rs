@@ -1,10 +1,11 @@
-//! The library on the twelve tables of "Tables by hand": against the answers that the document gives, and with every buffer length.
+//! The library on the twelve tables of "Tables by hand" and on the headers there: against the answers that the document gives, and with every buffer
+//! length.
 
 use super::bench::{Bench, Stop};
 use super::case::{Case, Name};
 use super::library;
 use super::table::{self, Depth};
-use crate::draw::hand::{hand_tables, Hand};
+use crate::draw::hand::{hand_headers, hand_tables, Hand};
 use crate::draw::random::Random;
 
 pub fn compare(bench: &mut Bench) -> Result<(), Stop> {
@@ -15,6 +16,17 @@ pub fn compare(bench: &mut Bench) -> Result<(), Stop> {
             table: &file,
         };
         compare_given(bench, &case, &hand)?;
+        table::compare(bench, case.name, &mut Random::for_table(0, hand.name, 0), &file, Depth::Sweep)?;
+    }
+    for hand in hand_headers() {
+        let file = hand.file();
+        let case = Case {
+            name: Name::Hand(hand.name),
+            table: &file,
+        };
+        let refused = library::open(&file).err().map(|refusal| (refusal.number, refusal.place));
+        let given = hand.refused.map(|number| (number, 0));
+        bench.agree(&case, format_args!("open, against the document"), &refused, &given)?;
         table::compare(bench, case.name, &mut Random::for_table(0, hand.name, 0), &file, Depth::Sweep)?;
     }
     Ok(())

@@ -68,6 +68,9 @@ fn compare_refused(bench: &mut Bench, case: &Case, random: &mut Random, refused:
     if let Some(last) = last_place(case.table, refusal.number) {
         bench.tally.place(refused, last);
     }
+    if [3, 14, 15].contains(&refusal.number) {
+        bench.tally.counts(outside(case.table));
+    }
     bench.agree(case, format_args!("open"), &library::open(case.table), &Err(refusal))?;
     bench.agree(case, format_args!("quote"), &library::quote(case.table), &Err(refusal))?;
     search::compare_refused(bench, case, random, refusal)?;
@@ -75,13 +78,22 @@ fn compare_refused(bench: &mut Bench, case: &Case, random: &mut Random, refused:
     step::compare_refused(bench, case, random, refusal)
 }
 
+fn word(table: &[u8], at: usize) -> usize {
+    u32::from_le_bytes([table[at], table[at + 1], table[at + 2], table[at + 3]]) as usize
+}
+
 /// The last place that a refusal can name in a table with these n and e.
 fn last_place(table: &[u8], number: u32) -> Option<usize> {
-    let word = |at: usize| u32::from_le_bytes([table[at], table[at + 1], table[at + 2], table[at + 3]]) as usize;
     match number {
-        5 => Some(word(4)),
-        6 => Some(word(8) - 1),
-        7 | 8 => Some(word(4) - 1),
+        5 => Some(word(table, 4)),
+        6 => Some(word(table, 8) - 1),
+        7 | 8 => Some(word(table, 4) - 1),
         _ => None,
     }
+}
+
+/// Which of n, e and m are outside their ranges.
+fn outside(table: &[u8]) -> [bool; 3] {
+    let ranges = [(4, 1..=64), (8, 1..=1_024), (12, 0..=4)];
+    ranges.map(|(at, range)| !range.contains(&word(table, at)))
 }

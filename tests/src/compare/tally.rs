@@ -11,9 +11,13 @@ pub const LEAST_COUNT: u64 = 10;
 /// Lasso lengths up to this one are counted, and required, one by one.
 const LAST_SINGLE_K: usize = 12;
 
+/// The numbers of the refusal list, in the list's order.
+const NUMBERS: [u32; 15] = [1, 2, 3, 14, 15, 4, 5, 6, 7, 8, 9, 10, 11, 12, 13];
+
 /// Reasons that must each come up alone.
-const REASONS: [(u32, &[&str]); 6] = [
-    (3, &["n below 1", "n above 64", "e below 1", "e above 1024", "m above 4"]),
+const REASONS: [(u32, &[&str]); 7] = [
+    (3, &["n below 1", "n above 64"]),
+    (14, &["e below 1", "e above 1024"]),
     (
         4,
         &[
@@ -34,21 +38,33 @@ const REASONS: [(u32, &[&str]); 6] = [
 const PLACES: [(u32, &[&str]); 4] = [(5, &ENDS), (6, &ENDS), (7, &ENDS), (8, &ENDS)];
 const ENDS: [&str; 3] = ["first", "middle", "last"];
 
+/// Which counts of a header are outside their ranges at the same time.
+const COUNTS: [&str; 7] = ["n", "e", "m", "n e", "n m", "e m", "n e m"];
+
 const TABLES: [&str; 3] = ["no start", "all goal", "an empty set"];
 const LASSOS: [&str; 5] = ["holds", "chosen among several", "through one state twice", "l is 0", "l above 0"];
 const WALKS: [&str; 3] = ["bad at the end", "not bad at the end", "wished more than once"];
 
 /// Lines that the programs must have had to print.
-const VERDICT_LINES: [&str; 5] = ["lasso", "holds", "refused 9", "board none", "refused 4"];
-const TRANSLATE_LINES: [&str; 3] = ["no line", "refused 11", "refused 4"];
+const VERDICT_LINES: [&str; 8] = [
+    "lasso",
+    "holds",
+    "refused 9",
+    "board none",
+    "refused 3",
+    "refused 14",
+    "refused 15",
+    "refused 4",
+];
+const TRANSLATE_LINES: [&str; 6] = ["no line", "refused 11", "refused 3", "refused 14", "refused 15", "refused 4"];
 
 #[derive(Default)]
 pub struct Tally {
     counts: BTreeMap<(&'static str, String), u64>,
     /// Whether the programs were run.
     programs: bool,
-    /// Refusals by number. These come up by the million, so they do without a name.
-    refused: [u64; 14],
+    /// Refusals by their place in `NUMBERS`. These come up by the million, so they do without a name.
+    refused: [u64; NUMBERS.len()],
 }
 
 impl Tally {
@@ -57,7 +73,9 @@ impl Tally {
     }
 
     pub fn refused(&mut self, refused: Refused) {
-        self.refused[refused.refusal.number as usize] += 1;
+        let number = refused.refusal.number;
+        let line = NUMBERS.iter().position(|&listed| listed == number).expect("a number of the list");
+        self.refused[line] += 1;
         if refused.reason != PLAIN {
             self.count("reason", format!("{} {}", refused.refusal.number, refused.reason));
         }
@@ -68,6 +86,12 @@ impl Tally {
         let place = refused.refusal.place;
         let end = ENDS[if place == 0 { 0 } else { 1 + usize::from(place == last) }];
         self.count("place", format!("{} {end}", refused.refusal.number));
+    }
+
+    /// Which of n, e and m are outside their ranges in a header that is refused for one of them.
+    pub fn counts(&mut self, outside: [bool; 3]) {
+        let names = ["n", "e", "m"].into_iter().zip(outside).filter(|(_, outside)| *outside);
+        self.count("counts", names.map(|(name, _)| name).collect::<Vec<_>>().join(" "));
     }
 
     pub fn accepted(&mut self, table: &Table, quote: &Quote, least: Option<&Least>) {
@@ -129,7 +153,8 @@ impl Tally {
 
     /// Everything that is required, with its count.
     fn required(&self) -> Vec<(&'static str, String, u64)> {
-        let refusals = (1..=13).map(|number| ("refused", number.to_string(), self.refused[number]));
+        let refusals = NUMBERS.iter().zip(self.refused);
+        let refusals = refusals.map(|(number, count)| ("refused", number.to_string(), count));
         let named = required_names(self.programs).into_iter().map(|(group, name)| {
             let count = self.of(group, &name);
             (group, name, count)
@@ -172,6 +197,7 @@ fn required_names(programs: bool) -> Vec<(&'static str, String)> {
     }
     for (group, list) in [
         ("k", &GROUPED_K[..]),
+        ("counts", &COUNTS[..]),
         ("table", &TABLES[..]),
         ("lasso", &LASSOS[..]),
         ("walk", &WALKS[..]),

@@ -1,5 +1,5 @@
-//! Damaged tables: an accepted table with one damage or several, files that are too large but otherwise in order, and bytes of no meaning. Lines 1
-//! to 8 of "Refusal list" are each aimed at; what a damaged table is refused for, if at all, is not decided here.
+//! Damaged tables: an accepted table with one damage or several, files that are too large but otherwise in order, and bytes of no meaning. The
+//! table's own lines of "Refusal list" are each aimed at; what a damaged table is refused for, if at all, is not decided here.
 
 use super::large::large;
 use super::random::Random;
@@ -7,12 +7,29 @@ use super::sketch::{file, Sketch};
 use super::small::small;
 
 pub fn damaged(random: &mut Random) -> Vec<u8> {
-    match random.below(12) {
+    match random.below(13) {
         0 => meaningless(random),
         1 => too_much(random),
-        2 | 3 => with_empty_rows(random),
+        2 => with_wrong_counts(random),
+        3 | 4 => with_empty_rows(random),
         _ => with_wrong_bytes(random),
     }
+}
+
+/// Where n, e and m stand, and for each two numbers near its range and outside it.
+const COUNTS: [(usize, [u32; 2]); 3] = [(4, [0, 65]), (8, [0, 1_025]), (12, [5, 6])];
+
+/// In order but for one, two or all three of the counts, each near its range or as large as can be.
+pub fn with_wrong_counts(random: &mut Random) -> Vec<u8> {
+    let mut bytes = accepted(random).file();
+    let wrong = random.between(1, 7);
+    for (i, (at, near)) in COUNTS.into_iter().enumerate() {
+        let number = if random.chance(70) { random.pick(&near) } else { u32::MAX };
+        if wrong >> i & 1 == 1 {
+            put(&mut bytes, at, number);
+        }
+    }
+    bytes
 }
 
 /// Bytes of any length, mostly about the header's; some begin like a table.
@@ -167,11 +184,11 @@ fn damage_kind(random: &mut Random, bytes: &mut [u8]) {
     }
 }
 
-/// n, e or m, just outside its range or anything else.
+/// n, e or m, near its range and outside it, or anything else.
 fn damage_count(random: &mut Random, bytes: &mut [u8]) {
-    let (at, outside) = random.pick(&[(4, [0, 65]), (8, [0, 1_025]), (12, [5, 6])]);
+    let (at, near) = random.pick(&COUNTS);
     if random.chance(40) {
-        let number = random.pick(&outside);
+        let number = random.pick(&near);
         put(bytes, at, number);
     } else {
         change(random, bytes, at);

@@ -8,7 +8,7 @@ use super::printed;
 use super::quote::{quote, Quote};
 use super::refusal::{Refusal, Refused};
 use super::table::Table;
-use crate::draw::hand::{hand_tables, Hand};
+use crate::draw::hand::{hand_headers, hand_tables, Hand};
 use crate::draw::sketch::{file, Sketch};
 
 fn hand_table(name: &str) -> Hand {
@@ -87,13 +87,21 @@ fn refusals_of_the_header() {
     assert_eq!(refusal(open(&a[..28])), (4, 0));
     assert_eq!(refusal(open(&a_with(0, 2))), (2, 0));
     assert_eq!(refusal(open(&file(0, &vec![vec![0]; 65], &[0; 65]))), (3, 0));
-    for (at, number) in [(4, 0), (4, 65), (8, 0), (8, 1_025), (12, 5), (12, u32::MAX)] {
-        assert_eq!(refusal(open(&a_with(at, number))), (3, 0), "{number} at byte {at}");
+    for (at, number, line) in [(4, 0, 3), (4, 65, 3), (8, 0, 14), (8, 1_025, 14), (12, 5, 15), (12, u32::MAX, 15)] {
+        assert_eq!(refusal(open(&a_with(at, number))), (line, 0), "{number} at byte {at}");
     }
     for (at, number) in [(4, 5), (8, 9), (16, 29), (20, 44), (24, 0)] {
         assert_eq!(refusal(open(&a_with(at, number))), (4, 0), "{number} at byte {at}");
     }
     assert_eq!(refusal(open(&[a, vec![0]].concat())), (4, 0));
+}
+
+#[test]
+fn which_count_is_wrong() {
+    for hand in hand_headers() {
+        let refused = open(&hand.file()).err().map(|refused| (refused.refusal.number, refused.refusal.place));
+        assert_eq!(refused, hand.refused.map(|number| (number, 0)), "{}", hand.name);
+    }
 }
 
 /// Table a has row starts 0, 2, 4, 6, 8 from byte 28, targets 0 1, 1 2, 2 3, 0 3 from byte 48, and four marks from byte 80.

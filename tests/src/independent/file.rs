@@ -1,5 +1,5 @@
-//! Reads a table file: "The table file", and lines 1 to 8 of "Refusal list". Each line is a function that answers the place and the reason where the
-//! line applies; they are asked in the order of their numbers, so each may rely on those before it.
+//! Reads a table file: "The table file", and the table's own lines of "Refusal list". Each line is a function that answers the place and the reason
+//! where the line applies; they are asked in the list's order, so each may rely on those before it.
 
 use super::refusal::{reason_among, refused, Refused, PLAIN};
 use super::table::Table;
@@ -35,7 +35,9 @@ pub fn open(bytes: &[u8]) -> Result<Table, Refused> {
     if header.kind != 1 {
         return Err(refused(2, 0, PLAIN));
     }
-    refuse_if(3, wrong_count(&header))?;
+    refuse_if(3, wrong_states(&header))?;
+    refuse_if(14, wrong_edges(&header))?;
+    refuse_if(15, wrong_sets(&header))?;
     refuse_if(4, wrong_layout(&header, bytes.len() as u64))?;
     let sections = read_sections(&header, bytes);
     refuse_if(5, wrong_row_start(&header, &sections))?;
@@ -79,15 +81,18 @@ fn read_sections(header: &Header, bytes: &[u8]) -> Sections {
     }
 }
 
-fn wrong_count(header: &Header) -> Option<Found> {
-    let reason = reason_among(&[
-        (header.n < 1, "n below 1"),
-        (header.n > 64, "n above 64"),
-        (header.e < 1, "e below 1"),
-        (header.e > 1024, "e above 1024"),
-        (header.m > 4, "m above 4"),
-    ])?;
+fn wrong_states(header: &Header) -> Option<Found> {
+    let reason = reason_among(&[(header.n < 1, "n below 1"), (header.n > 64, "n above 64")])?;
     Some((0, reason))
+}
+
+fn wrong_edges(header: &Header) -> Option<Found> {
+    let reason = reason_among(&[(header.e < 1, "e below 1"), (header.e > 1024, "e above 1024")])?;
+    Some((0, reason))
+}
+
+fn wrong_sets(header: &Header) -> Option<Found> {
+    (header.m > 4).then_some((0, PLAIN))
 }
 
 fn wrong_layout(header: &Header, length: u64) -> Option<Found> {

@@ -1,7 +1,7 @@
 //! The inputs for the two programs: tables by hand, drawn and damaged ones, those about the programs' own buffer sizes, and long or empty inputs.
 
-use crate::draw::damage::damaged;
-use crate::draw::hand::hand_tables;
+use crate::draw::damage::{damaged, with_wrong_counts};
+use crate::draw::hand::{hand_headers, hand_tables};
 use crate::draw::large::{large, largest, of_size};
 use crate::draw::random::Random;
 use crate::draw::sketch::{MOST_EDGES, MOST_STATES};
@@ -28,10 +28,12 @@ pub fn inputs(seed: u64) -> Vec<Input> {
         all.push(in_parts("hand in parts", hand.sketch.file(), 1, 1));
         all.push(in_parts("hand in parts", hand.sketch.file(), 27, 3));
     }
+    all.extend(hand_headers().map(|hand| at_once("header by hand", hand.file())));
     let random = &mut Random::for_table(seed, "programs", 0);
     all.extend((0..80).map(|_| at_once("small", small(random).file())));
     all.extend((0..60).map(|_| at_once("large", large(random).file())));
     all.extend((0..80).map(|_| at_once("damaged", damaged(random))));
+    all.extend((0..120).map(|_| at_once("wrong counts", with_wrong_counts(random))));
     all.extend((0..10).map(|i| at_once("no board", of_size(random, MOST_STATES, 64 << (i % 5), 3 + i % 2).file())));
     about_verdict(random, &mut all);
     about_translate(random, &mut all);

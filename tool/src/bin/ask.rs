@@ -1,5 +1,6 @@
 //! What the scripts `verdict` and `translate` run once all is built: it puts a table before a proved program, and tells what comes back. The answer
 //! is the program's own; here stand the reading, the words of a refusal, the warnings, the writing and the exit status.
+use lasso::number::{SHORT_OUTPUT, SHORT_REPORT, SHORT_WORKSPACE};
 use std::env::args_os;
 use std::ffi::{OsStr, OsString};
 use std::process::ExitCode;
@@ -67,10 +68,10 @@ fn ending(given: &Given, refusal: Option<lasso::Refusal>) -> Ending {
     }
 }
 
-/// Lines 9 to 11 of the refusal list are about lent buffers, and the client lent none.
+/// Three lines of the refusal list are about lent buffers, and the client lent none.
 fn whose_buffers(refusal: lasso::Refusal) -> &'static str {
     match refusal.number {
-        9..=11 => " (these are the program's own buffers; the library takes longer ones)",
+        SHORT_WORKSPACE | SHORT_REPORT | SHORT_OUTPUT => " (these are the program's own buffers; the library takes longer ones)",
         _ => "",
     }
 }

@@ -20,8 +20,14 @@ fn each_line_of_the_list() {
     let a = bytes("a", "table");
     assert_refused(&a[..27], "refused 1 0: fewer than 28 bytes");
     assert_refused(&table_a_with(0, 2), "refused 2 0: kind is not 1");
-    for (offset, number) in [(4, 65), (4, 0), (8, 1025), (12, 5)] {
-        assert_refused(&table_a_with(offset, number), "refused 3 0: n, e or m outside its range");
+    for number in [0, 65, u32::MAX] {
+        assert_refused(&table_a_with(4, number), "refused 3 0: n, the number of states, is outside 1 to 64");
+    }
+    for number in [0, 1025, u32::MAX] {
+        assert_refused(&table_a_with(8, number), "refused 14 0: e, the number of edges, is outside 1 to 1,024");
+    }
+    for number in [5, u32::MAX] {
+        assert_refused(&table_a_with(12, number), "refused 15 0: m, the number of fairness sets, is above 4");
     }
     let layout = "refused 4 0: an offset or the length is not the computed one";
     assert_refused(&table_a_with(16, 32), layout);

@@ -1,4 +1,4 @@
--- `opening::laid_out` meets its contract: what lines 1 to 3 refuse stays refused, and after them the code goes down lines 4 and 5. Assumes nothing.
+-- `opening::laid_out` meets its contract: what the lines of the counts refuse stays refused, and after them the code goes down lines 4 and 5. Assumes nothing.
 use mathlib.Core.Path.{_≡_, sym, ap, _∙_}
 use mathlib.Core.Bool.{true}
 use mathlib.Core.List.{List}
@@ -26,7 +26,7 @@ b c = now (c .before .before .before .before .before .args .bytes)
 abbrev t : tie.After-known-told → Table
 t c = c .before .answer .given .0 .0
 
--- lines 1 to 3 are not given, and the table is the header's
+-- the lines of the counts are not given, and the table is the header's
 taken : (c : tie.After-known-told) → (firstGiven (countLines (b c)) ≡ none) × (t c ≡ tableOf (b c))
 taken c = accepts-says (b c) _ (t c) (sym (c .before .before .before .counted .ensures) ∙ c .before .answer .given .1)
 
@@ -58,7 +58,7 @@ layout-fits-requires c κs =
     let e = taken c .1 in
     let s = ap (λ (t : Table). t .states) e in
     let n = ap (λ (t : Table). t .edges) e in
-    (d .long, ((s, n), (omega (arith, d .counts), omega (arith, d .counts))))
+    (d .long, ((s, n), (omega (arith, d .states), omega (arith, d .edges))))
 
 returns-2 : tie.Need-returns-2
 returns-2 c =

@@ -25,7 +25,7 @@ b c = now (c .before .before .before .before .before .args .bytes)
 abbrev t : tie.After-known-told → Table
 t c = c .before .answer .given .0 .0
 
--- lines 1 to 5 are not given, and the table is the header's
+-- the lines from the first down to 5 are not given, and the table is the header's
 taken : (c : tie.After-known-told) → (firstGiven (countLines (b c) ++ rowLines (b c)) ≡ none) × (t c ≡ tableOf (b c))
 taken c = accepts-says (b c) _ (t c) (sym (c .before .before .before .laid-out .ensures) ∙ c .before .answer .given .1)
 
