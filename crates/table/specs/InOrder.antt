@@ -116,7 +116,7 @@ line-at p (some i) r ls e h k = let c : p ≤ positionOf (r i) = rw (e i) h in l
 -- ---- the table's lines, and after them a job's own
 
 module _ (b : List ℕ) (ls : List (Option Refusal)) where
-  -- the lines after each count's, and from that of the states on: the parts of `linesOf` that the laws below go through
+  -- the lines after each count's, and after that of the kind: the parts of `linesOf` that the laws below go through
   abbrev pub afterSets : List (Option Refusal)
   afterSets = (rowLines b ++ contentLines b) ++ ls
 
@@ -126,8 +126,8 @@ module _ (b : List ℕ) (ls : List (Option Refusal)) where
   abbrev pub afterStates : List (Option Refusal)
   afterStates = given (outside (edgesOf b) 1 1024) WrongEdges ∷ afterEdges
 
-  abbrev pub fromStates : List (Option Refusal)
-  fromStates = given (outside (statesOf b) 1 64) WrongStates ∷ afterStates
+  abbrev pub afterKind : List (Option Refusal)
+  afterKind = given (outside (statesOf b) 1 64) WrongStates ∷ afterStates
 
   pub after-sets : InOrderFrom (positionAfter (WrongMark 0)) ls → InOrderFrom (positionAfter WrongSets) afterSets
   unfolding rowLines contentLines
@@ -144,15 +144,17 @@ module _ (b : List ℕ) (ls : List (Option Refusal)) where
   pub after-states : InOrderFrom (positionAfter (WrongMark 0)) ls → InOrderFrom (positionAfter WrongStates) afterStates
   after-states k = line (positionAfter WrongStates) (outside (edgesOf b) 1 1024) WrongEdges _ (omega arith) (after-edges k)
 
+  after-kind : InOrderFrom (positionAfter (WrongMark 0)) ls → InOrderFrom (positionAfter WrongKind) afterKind
+  after-kind k = line (positionAfter WrongKind) (outside (statesOf b) 1 64) WrongStates _ (omega arith) (after-states k)
+
   lines-in-order : InOrderFrom (positionAfter (WrongMark 0)) ls → InOrder (linesOf b ++ ls)
   unfolding linesOf countLines
   lines-in-order k =
       line 0 (ltb (length b) 28) TooShort _ (omega arith)
-      (line (positionAfter TooShort) (not (eqb (kindOf b) 1)) WrongKind _ (omega arith)
-      (line (positionAfter WrongKind) (outside (statesOf b) 1 64) WrongStates _ (omega arith) (after-states k)))
+      (line (positionAfter TooShort) (not (eqb (kindOf b) 1)) WrongKind _ (omega arith) (after-kind k))
 
 -- what a job refuses is the first line that is given, of the table's lines and then its own
-pub down-the-list : (b : List ℕ) (ls : List (Option Refusal)) → refusalFor (openOf b) ls ≡ firstGiven (linesOf b ++ ls)
+down-the-list : (b : List ℕ) (ls : List (Option Refusal)) → refusalFor (openOf b) ls ≡ firstGiven (linesOf b ++ ls)
 unfolding openOf openedBy
 down-the-list b ls = go (linesOf b)
   where

@@ -12,9 +12,9 @@ use Rattle.table.specs.Open.{outside, layoutFits}
 use Rattle.table.specs.Facts.{facts}
 use Rattle.table.specs.declared.Table.{Table}
 
--- x is inside low to high
-abbrev pub InRange : ℕ → ℕ → ℕ → Type 0
-InRange x low high = (low ≤ x) × (x ≤ high)
+-- x is from low to high
+abbrev pub FromTo : ℕ → ℕ → ℕ → Type 0
+FromTo x low high = (low ≤ x) × (x ≤ high)
 
 pub record LaidOut (b : List ℕ) (t : Table) : Type 0 where
   pub states-are : t .states ≡ statesOf b
@@ -33,7 +33,7 @@ table-is b t s e m = λ i. record { states = s i; edges = e i; sets = m i }
 
 -- so a table is laid out where it is the header's, its counts are inside their ranges and the length is theirs
 pub laid-by : (b : List ℕ) (t : Table) → t ≡ tableOf b
-    → InRange (statesOf b) 1 64 → InRange (edgesOf b) 1 1024 → setsOf b ≤ 4
+    → FromTo (statesOf b) 1 64 → FromTo (edgesOf b) 1 1024 → setsOf b ≤ 4
     → length b ≡ lengthOf (statesOf b) (edgesOf b) → LaidOut b t
 laid-by b t e states edges sets size =
     let s : t .states ≡ statesOf b = ap (λ (t : Table). t .states) e in
@@ -53,7 +53,7 @@ laid-by b t e states edges sets size =
 
 -- ---- what a count's line and line 4 say where they are not given, nested as the tests are
 
-pub inside : (x low high : ℕ) → (outside x low high ≡ false) ↔ InRange x low high
+pub inside : (x low high : ℕ) → (outside x low high ≡ false) ↔ FromTo x low high
 unfolding outside
 inside x low high = simp facts Iff·rfl
 

@@ -10,12 +10,12 @@ pub mod BlockOf
 pub mod Bits
 pub mod Facts
 pub mod LaidOut
-pub mod WhichCount
 pub mod Answers
 pub mod Inside
 pub mod Rows
 pub mod Targets
 pub mod Stages
+pub mod WhichCount
 pub mod WellFormed
 pub mod Sound
 pub mod Row

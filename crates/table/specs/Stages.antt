@@ -14,7 +14,7 @@ use Rattle.table.specs.Given.{firstGiven, test-off, index-off, none-give
 use Rattle.table.specs.Layout.{kindOf, statesOf, edgesOf, setsOf, tableOf}
 use Rattle.table.specs.Open.{outside, layoutFits, rowStartWrong, targetWrong, rowEmpty, markWrong, countLines, rowLines, contentLines, answerOf, openedBy}
 use Rattle.table.specs.Facts.{facts}
-use Rattle.table.specs.LaidOut.{InRange, LaidOut, laid-by, inside, layout-right}
+use Rattle.table.specs.LaidOut.{FromTo, LaidOut, laid-by, inside, layout-right}
 use Rattle.table.specs.Rows.{RowsRight, row-starts-right}
 use Rattle.table.specs.declared.Table.{Table}
 use Rattle.table.specs.declared.Opened.{Opened}
@@ -42,7 +42,7 @@ accepts-says b ls t = go (firstGiven ls)
     go none e = (refl, cc)
     go (some r) e = absurd (let z : _≡_ {A = ℕ} 0 1 = cc in omega arith)
 
-refuses-says : (b : List ℕ) (ls : List (Option Refusal)) (r : Refusal) → openedBy b ls ≡ Refused r → firstGiven ls ≡ some r
+pub refuses-says : (b : List ℕ) (ls : List (Option Refusal)) (r : Refusal) → openedBy b ls ≡ Refused r → firstGiven ls ≡ some r
 unfolding openedBy
 refuses-says b ls r = go (firstGiven ls)
   where
@@ -95,8 +95,8 @@ module _ (b : List ℕ) where
   pub record Counted : Type 0 where
     pub long : 28 ≤ length b
     pub kind : kindOf b ≡ 1
-    pub states : InRange (statesOf b) 1 64
-    pub edges : InRange (edgesOf b) 1 1024
+    pub states : FromTo (statesOf b) 1 64
+    pub edges : FromTo (edgesOf b) 1 1024
     pub sets : setsOf b ≤ 4
 
   pub counted : firstGiven (countLines b) ≡ none → Counted
