@@ -57,11 +57,13 @@ is_in_listed x (y ∷ ys) e = go (eqb x y) refl e (is_in_listed x ys)
 
 pub listed_is_in : (x : ℕ) (xs : List ℕ) → Listed x xs → is_in x xs ≡ true
 unfolding is_in
+listed_is_in x [] m = elim m [ ]
 listed_is_in x (y ∷ ys) (Memᴰ.head d) = rw (eq-eqb x y d)
 listed_is_in x (y ∷ ys) (Memᴰ.tail m) = rw (listed_is_in x ys m, or-true)
 
 pub every_listed : (p : ℕ → Bool) (xs : List ℕ) → every p xs ≡ true → (x : ℕ) → Listed x xs → p x ≡ true
 unfolding every
+every_listed p [] e x m = elim m [ ]
 every_listed p (y ∷ ys) e x (Memᴰ.head d) = rw d (both (p y) _ e).0
 every_listed p (y ∷ ys) e x (Memᴰ.tail m) = every_listed p ys (both (p y) _ e).1 x m
 
