@@ -1,5 +1,7 @@
 // Runs cases of the table's own lines of the refusal list, and of the quote sheet, and prints a line for each: what the table opens as, or its quote.
 // docs/RULES.md, "The table file", "Quote sheet", "Refusal list" and "Tables by hand". The file stdout has what they must be.
+#![tactic(auto)]
+
 mod base;
 mod boards;
 mod builder;

@@ -1,5 +1,7 @@
 // Cases of a search, one line each, held to the file `stdout`. docs/RULES.md, "Lasso and choice", "Refusal list", "Tables by hand" and
 // "Plausible slips".
+#![tactic(auto)]
+
 mod again;
 mod hand;
 mod lengths;

@@ -1,5 +1,7 @@
 // Cases of a step, one line each, held to the file `stdout`. docs/RULES.md, "The recorder", lines 12 and 13 of "Refusal list", and those of
 // "Plausible slips" that a single step can show.
+#![tactic(auto)]
+
 mod show;
 
 use show::{at, case};

@@ -1,4 +1,6 @@
 // Cases of a translation, one line each, held to the file `stdout`. docs/RULES.md, "Translated table", "Refusal list" and "Tables by hand".
+#![tactic(auto)]
+
 mod again;
 mod hand;
 mod large;

@@ -1,4 +1,6 @@
 // The quote sheet: what a table costs on a board, after recording. docs/RULES.md, "Quote sheet". The rules stand in specs/.
+#![tactic(auto)]
+
 mod boards;
 mod members;
 

@@ -1,4 +1,6 @@
 // The search for the least lasso. docs/RULES.md, "Lasso and choice" and "Refusal list". The rules stand in specs/.
+#![tactic(auto)]
+
 mod climb;
 mod meet;
 mod scan;

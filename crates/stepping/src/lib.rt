@@ -1,4 +1,6 @@
 // Moving one record along one edge of a table. docs/RULES.md, "The recorder" and lines 12 and 13 of "Refusal list". The rules stand in specs/.
+#![tactic(auto)]
+
 ghost use Rattle.std.specs.Prelude.{◌≡◌, ◌≤◌};
 ghost use Rattle.stepping.specs.Step.{record_fits, stepped_of};
 

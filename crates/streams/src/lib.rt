@@ -1,6 +1,8 @@
 // Reading a table from standard input and writing to standard output, for both programs. At most 4,449 bytes are read, one more than the longest table
 // has, so that a longer input is refused for its length and not cut to a table. No contract can say what is read or written. Here it is proved that
 // the count fits and that reading ends.
+#![tactic(auto)]
+
 ghost use Rattle.std.specs.Prelude.{◌≡◌, length, ◌≤◌};
 ghost use Rattle.io.specs.Counts.{IsPrefixLen};
 ghost use Rattle.streams.specs.Counted.{part_of, PartCounts};

@@ -1,5 +1,7 @@
 // The table file: its counts and refusals, and reading it. docs/RULES.md, "The table file" and "Refusal list". The rules stand in specs/; opening
 // stands in the crate `opening`.
+#![tactic(auto)]
+
 mod read;
 mod refusal;
 

@@ -1,4 +1,6 @@
 // The translated table. docs/RULES.md, "Translated table" and line 11 of "Refusal list". The rules stand in specs/.
+#![tactic(auto)]
+
 mod header;
 mod marks;
 mod rows;

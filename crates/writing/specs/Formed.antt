@@ -6,8 +6,9 @@ use Rattle.std.proofs.Common.{◌∙◌, arith}
 use Rattle.table.specs.Layout.{states_of, edges_of, sets_of, row_start, mark}
 use Rattle.table.specs.Open.{open_of}
 use Rattle.table.specs.BlockOf.{block_of}
-use Rattle.table.specs.Bits.{low_bits}
-use Rattle.table.specs.WellFormed.{WellFormed, accepted}
+use Rattle.table.proofs.Bits.{low_bits}
+use Rattle.table.specs.WellFormed.{WellFormed}
+use Rattle.table.proofs.WellFormed.{accepted}
 use Rattle.table.specs.declared.Opened.TheVariants.{Accepted}
 use Rattle.writing.specs.File.{join_to, start_in, file_with}
 use Rattle.writing.specs.Joined.{join_step, join_rise}

@@ -1,7 +1,7 @@
 -- `lasso::lasso_open` meets its contract: number and words are those of opening's answer, refused or accepted. Assumes nothing.
 use mathlib.Core.Path.{sym, ◌∙◌}
-use Rattle.table.specs.WellFormed.{why_is}
-use Rattle.lasso.specs.Laws.{open_accepted, open_refused}
+use Rattle.table.proofs.WellFormed.{why_is}
+use Rattle.lasso.proofs.Laws.{open_accepted, open_refused}
 use borrow.Author.Rules.{rules}
 use Rattle.lasso.proofs.lasso_open.Statement.{statement}
 use Rattle.lasso.proofs.lasso_open.Tie as tie

@@ -1,5 +1,5 @@
 -- `lasso::lasso_quote` meets its contract: number and place are those of opening's answer, and the sheet has four numbers of members. Assumes nothing.
-use Rattle.lasso.specs.Laws.{quote_told}
+use Rattle.lasso.proofs.Laws.{quote_told}
 use borrow.Author.Rules.{rules}
 use Rattle.lasso.proofs.lasso_quote.Statement.{statement}
 use Rattle.lasso.proofs.lasso_quote.Tie as tie

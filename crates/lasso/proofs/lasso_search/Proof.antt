@@ -1,5 +1,5 @@
 -- `lasso::lasso_search` meets its contract: the search's answer is told case by case. Assumes nothing.
-use Rattle.lasso.specs.Laws.{search_lasso, search_holds, search_refused}
+use Rattle.lasso.proofs.Laws.{search_lasso, search_holds, search_refused}
 use borrow.Author.Rules.{rules}
 use Rattle.lasso.proofs.lasso_search.Statement.{statement}
 use Rattle.lasso.proofs.lasso_search.Tie as tie

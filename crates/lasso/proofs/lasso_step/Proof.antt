@@ -1,6 +1,6 @@
 -- `lasso::lasso_step` meets its contract: the step's answer is told case by case. Assumes nothing.
 use mathlib.Core.Path.{sym, ◌∙◌}
-use Rattle.lasso.specs.Laws.{step_moved, step_refused}
+use Rattle.lasso.proofs.Laws.{step_moved, step_refused}
 use borrow.Author.Rules.{rules}
 use Rattle.lasso.proofs.lasso_step.Statement.{statement}
 use Rattle.lasso.proofs.lasso_step.Tie as tie

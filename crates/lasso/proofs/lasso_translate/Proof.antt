@@ -1,5 +1,5 @@
 -- `lasso::lasso_translate` meets its contract: the translation's answer is told case by case. Assumes nothing.
-use Rattle.lasso.specs.Laws.{translate_written, translate_refused}
+use Rattle.lasso.proofs.Laws.{translate_written, translate_refused}
 use borrow.Author.Rules.{rules}
 use Rattle.lasso.proofs.lasso_translate.Statement.{statement}
 use Rattle.lasso.proofs.lasso_translate.Tie as tie

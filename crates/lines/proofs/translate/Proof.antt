@@ -1,5 +1,5 @@
 -- `lines::translate` meets its contract: what was written is the translated table; a refusal left the output as it was, and its line stands in it. Assumes nothing.
-use Rattle.lines.specs.Laws.{puts_written, puts_not_written}
+use Rattle.lines.proofs.Laws.{puts_written, puts_not_written}
 use borrow.Author.Rules.{rules}
 use Rattle.lines.proofs.translate.Statement.{statement}
 use Rattle.lines.proofs.translate.Tie as tie

@@ -1,8 +1,8 @@
 -- `lines::verdict` meets its contract: the table is searched and quoted, and the lines are those of both answers. Assumes nothing.
 use native.Mathlib.Omega.{arith}
-use Rattle.table.specs.WellFormed.{why_is}
-use Rattle.lines.specs.Puts.{puts_on, puts_length}
-use Rattle.lines.specs.Laws.{run_fits, puts_table_refused, puts_verdict}
+use Rattle.table.proofs.WellFormed.{why_is}
+use Rattle.lines.proofs.Puts.{puts_on, puts_length}
+use Rattle.lines.proofs.Laws.{run_fits, puts_table_refused, puts_verdict}
 use borrow.Author.Rules.{rules}
 use Rattle.lines.proofs.verdict.Statement.{statement}
 use Rattle.lines.proofs.verdict.Tie as tie

@@ -9,8 +9,8 @@ use borrow.Author.Rules.{rules}
 use borrow.Author.Tests.{lt-ltb, le-ltb, eq-eqb, ne_eqb}
 use Rattle.table.specs.Layout.{kind_of, states_of, edges_of, sets_of}
 use Rattle.table.specs.Open.{outside}
-use Rattle.table.specs.LaidOut.{table_is}
-use Rattle.table.specs.Stages.{stage_refuses, stage_accepts, too_short, wrong_kind, wrong_states, wrong_edges, wrong_sets, counts_off}
+use Rattle.table.proofs.LaidOut.{table_is}
+use Rattle.table.proofs.Stages.{stage_refuses, stage_accepts, too_short, wrong_kind, wrong_states, wrong_edges, wrong_sets, counts_off}
 use Rattle.opening.proofs.counted.Statement.{statement}
 use Rattle.opening.proofs.counted.Tie as tie
 

@@ -7,12 +7,12 @@ use Prim.Native.Nat.{ℕ}
 use native.Mathlib.Omega.{arith}
 use borrow.Author.Rules.{rules}
 use borrow.Author.Tests.{not-true, not-false}
-use Rattle.table.specs.Answers.{found_at, found_none}
+use Rattle.table.proofs.Answers.{found_at, found_none}
 use Rattle.table.specs.Given.{first_given}
 use Rattle.table.specs.Layout.{table_of}
 use Rattle.table.specs.Open.{layout_fits, count_lines, row_lines}
 use Rattle.table.specs.LaidOut.{LaidOut}
-use Rattle.table.specs.Stages.{Counted, counted, accepts_says, stays_refused, next_refuses, next_accepts, wrong_layout, wrong_row_start, rows_off, laid_out}
+use Rattle.table.proofs.Stages.{Counted, counted, accepts_says, stays_refused, next_refuses, next_accepts, wrong_layout, wrong_row_start, rows_off, laid_out}
 use Rattle.table.specs.declared.Table.{Table}
 use Rattle.opening.proofs.laid_out.Statement.{statement}
 use Rattle.opening.proofs.laid_out.Tie as tie

@@ -5,13 +5,14 @@ use mathlib.Core.Option.{none}
 use Prim.Native.Nat.{ℕ}
 use borrow.Author.Rules.{rules}
 use Rattle.table.specs.First.{first_in}
-use Rattle.table.specs.Answers.{found_at, found_none}
-use Rattle.table.specs.Given.{first_given, none_in_parts}
+use Rattle.table.proofs.Answers.{found_at, found_none}
+use Rattle.table.specs.Given.{first_given}
+use Rattle.table.proofs.Given.{none_in_parts}
 use Rattle.table.specs.Layout.{states_of, edges_of, table_of}
 use Rattle.table.specs.LaidOut.{LaidOut}
 use Rattle.table.specs.Open.{target_wrong, row_empty, mark_wrong, count_lines, row_lines, content_lines, lines_of, open_of}
 use Rattle.table.specs.Rows.{RowsRight}
-use Rattle.table.specs.Stages.{accepts_says, stays_refused, next_refuses, next_accepts, counted, rows_leave, laid_out, wrong_target, empty_row, wrong_mark, content_off}
+use Rattle.table.proofs.Stages.{accepts_says, stays_refused, next_refuses, next_accepts, counted, rows_leave, laid_out, wrong_target, empty_row, wrong_mark, content_off}
 use Rattle.table.specs.declared.Table.{Table}
 use Rattle.opening.proofs.open.Statement.{statement}
 use Rattle.opening.proofs.open.Tie as tie

@@ -1,8 +1,9 @@
 -- `quote::quote` meets its contract: the sheet is that of opening's answer. Assumes nothing.
 use mathlib.Core.Path.{sym, ap, ◌∙◌}
 use borrow.Author.Rules.{rules}
-use Rattle.table.specs.WellFormed.{laid}
-use Rattle.quote.specs.Quote.{sheet_for, quote_is}
+use Rattle.table.proofs.WellFormed.{laid}
+use Rattle.quote.specs.Quote.{sheet_for}
+use Rattle.quote.proofs.Quote.{quote_is}
 use Rattle.quote.proofs.quote.Statement.{statement}
 use Rattle.quote.proofs.quote.Tie as tie
 

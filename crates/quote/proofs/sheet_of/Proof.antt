@@ -3,8 +3,8 @@
 use Prim.Native.Nat.{◌*◌, ◌^◌, ◌≤◌}
 use native.Mathlib.Omega.{arith}
 use borrow.Author.Rules.{rules}
-use Rattle.recorder.specs.Fits.{count_small}
-use Rattle.quote.specs.Sizes.{edges_small}
+use Rattle.recorder.proofs.Fits.{count_small}
+use Rattle.quote.proofs.Sizes.{edges_small}
 use Rattle.quote.specs.Quote.{sheet_of}
 use Rattle.quote.proofs.sheet_of.Statement.{statement}
 use Rattle.quote.proofs.sheet_of.Tie as tie

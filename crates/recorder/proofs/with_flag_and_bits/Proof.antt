@@ -6,7 +6,7 @@ use native.Mathlib.Nat.{mul-le-mul}
 use native.Mathlib.Omega.{arith}
 use lib.Pow.{pow_mono}
 use borrow.Author.Rules.{rules}
-use Rattle.recorder.specs.Fits.{one_shl}
+use Rattle.recorder.proofs.Fits.{one_shl}
 use Rattle.recorder.proofs.with_flag_and_bits.Statement.{statement}
 use Rattle.recorder.proofs.with_flag_and_bits.Tie as tie
 

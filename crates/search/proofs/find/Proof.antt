@@ -7,7 +7,7 @@ use lib.ListN.{length, drop}
 use borrow.Author.Rules.{rules}
 use Rattle.recorder.specs.Flag.{live_flag}
 use Rattle.recorder.specs.Slots.{slot_count}
-use Rattle.table.specs.Recording.{slots_few}
+use Rattle.table.proofs.Recording.{slots_few}
 use Rattle.writing.specs.Cleared.{cleared}
 use Rattle.search.specs.Climb.{path_by, label_of, path_to}
 use Rattle.search.specs.Find.{FindAsks, Told, starts_asked, scan_asked, rest_stays, seen_as, stopped_climbs, stopped_tells, says_lasso, says_holds, clears}

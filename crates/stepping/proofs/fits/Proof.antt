@@ -1,7 +1,7 @@
 -- `stepping::fits` meets its contract: the code is `record_fits`, since 1 shifted by m is 2^m. Assumes nothing.
 use native.Mathlib.Omega.{arith}
 use borrow.Author.Rules.{rules}
-use Rattle.recorder.specs.Fits.{one_shl}
+use Rattle.recorder.proofs.Fits.{one_shl}
 use Rattle.stepping.specs.Step.{record_fits}
 use Rattle.stepping.proofs.fits.Statement.{statement}
 use Rattle.stepping.proofs.fits.Tie as tie

@@ -10,12 +10,13 @@ use borrow.Author.Tests.{not-true, not-false}
 use Rattle.recorder.specs.declared.Record.{Record}
 use Rattle.table.specs.Open.{open_of}
 use Rattle.table.specs.BlockOf.{block_of}
-use Rattle.table.specs.Inside.{MarkInside, mark_inside}
-use Rattle.table.specs.WellFormed.{well_formed, laid, why_is}
+use Rattle.table.specs.Inside.{MarkInside}
+use Rattle.table.proofs.Inside.{mark_inside}
+use Rattle.table.proofs.WellFormed.{well_formed, laid, why_is}
 use Rattle.table.specs.declared.Table.{Table}
 use Rattle.table.specs.declared.Opened.TheVariants.{Accepted}
 use Rattle.stepping.specs.Step.{record_fits}
-use Rattle.stepping.specs.Laws.{fits_says, table_refused, block_counts, record_refused, no_edge, moves}
+use Rattle.stepping.proofs.Laws.{fits_says, table_refused, block_counts, record_refused, no_edge, moves}
 use Rattle.stepping.specs.declared.Stepped.TheVariants.{Moved}
 use Rattle.stepping.proofs.step.Statement.{statement}
 use Rattle.stepping.proofs.step.Tie as tie

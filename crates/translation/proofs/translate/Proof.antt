@@ -11,14 +11,15 @@ use Rattle.recorder.specs.Flag.{live_flag}
 use Rattle.recorder.specs.Slots.{slot_count}
 use Rattle.table.specs.Layout.{little_endian}
 use Rattle.table.specs.Open.{open_of}
-use Rattle.table.specs.WellFormed.{WellFormed, well_formed, laid, why_is}
+use Rattle.table.specs.WellFormed.{WellFormed}
+use Rattle.table.proofs.WellFormed.{well_formed, laid, why_is}
 use Rattle.table.specs.declared.Table.{Table}
 use Rattle.table.specs.declared.Opened.TheVariants.{Accepted}
 use Rattle.writing.specs.File.{listed, header_of}
 use Rattle.writing.specs.Placed.{placed}
 use Rattle.translation.specs.Asks.{Asks}
 use Rattle.translation.specs.File.{start_of_row, targets_to}
-use Rattle.translation.specs.Laws.{Counted, table_refused, short_output, translated, size_is, edges_counted, sizes_small, header_there, rows_room, rows_there, targets_room, targets_there, marks_room, marks_there}
+use Rattle.translation.proofs.Laws.{Counted, table_refused, short_output, translated, size_is, edges_counted, sizes_small, header_there, rows_room, rows_there, targets_room, targets_there, marks_room, marks_there}
 use Rattle.translation.proofs.translate.Statement.{statement}
 use Rattle.translation.proofs.translate.Tie as tie
 

@@ -4,8 +4,8 @@ use Prim.Native.Nat.{◌+◌, ◌<◌}
 use native.Mathlib.Omega.{arith}
 use lib.ListN.{length}
 use lib.Seq.{length-take-le}
-use Rattle.lines.specs.Puts.{puts_on, puts_length}
-use Rattle.lines.specs.Laws.{lasso_fits, puts_lasso, puts_holds, puts_answer_refused}
+use Rattle.lines.proofs.Puts.{puts_on, puts_length}
+use Rattle.lines.proofs.Laws.{lasso_fits, puts_lasso, puts_holds, puts_answer_refused}
 use borrow.Author.Rules.{rules}
 use Rattle.lines.proofs.lines.answer_lines.Statement.{statement}
 use Rattle.lines.proofs.lines.answer_lines.Tie as tie

@@ -1,7 +1,7 @@
 -- `lines::lines::board_line` meets its contract: a letter below 8, or `none`. Assumes nothing.
 use native.Mathlib.Omega.{arith}
-use Rattle.lines.specs.Puts.{puts_on}
-use Rattle.lines.specs.Laws.{puts_letter, puts_no_board}
+use Rattle.lines.proofs.Puts.{puts_on}
+use Rattle.lines.proofs.Laws.{puts_letter, puts_no_board}
 use borrow.Author.Rules.{rules}
 use Rattle.lines.proofs.lines.board_line.Statement.{statement}
 use Rattle.lines.proofs.lines.board_line.Tie as tie

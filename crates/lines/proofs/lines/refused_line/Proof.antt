@@ -1,5 +1,5 @@
 -- `lines::lines::refused_line` meets its contract: number and place are those of the list. Assumes nothing.
-use Rattle.lines.specs.Laws.{puts_refused}
+use Rattle.lines.proofs.Laws.{puts_refused}
 use borrow.Author.Rules.{rules}
 use Rattle.lines.proofs.lines.refused_line.Statement.{statement}
 use Rattle.lines.proofs.lines.refused_line.Tie as tie

@@ -3,8 +3,8 @@ use mathlib.Core.Path.{ap}
 use mathlib.Core.List.{append-nil}
 use native.Mathlib.Omega.{arith}
 use Rattle.lines.specs.Text.{members_word, line_of}
-use Rattle.lines.specs.Puts.{puts_on}
-use Rattle.lines.specs.Laws.{puts_as}
+use Rattle.lines.proofs.Puts.{puts_on}
+use Rattle.lines.proofs.Laws.{puts_as}
 use borrow.Author.Rules.{rules}
 use Rattle.lines.proofs.lines.sheet_lines.Statement.{statement}
 use Rattle.lines.proofs.lines.sheet_lines.Tie as tie

@@ -6,7 +6,8 @@ use Rattle.lines.specs.Text.{line_of}
 use native.Mathlib.Omega.{arith}
 use lib.ListN.{length, length-append}
 use borrow.Author.Rules.{rules}
-use Rattle.lines.specs.Puts.{Puts, Begun, begun, begun_on, line_room, line_done, puts_length}
+use Rattle.lines.specs.Puts.{Puts, Begun}
+use Rattle.lines.proofs.Puts.{begun, begun_on, line_room, line_done, puts_length}
 use Rattle.lines.proofs.put.put_line.Statement.{statement}
 use Rattle.lines.proofs.put.put_line.Tie as tie
 

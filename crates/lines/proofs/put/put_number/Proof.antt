@@ -2,7 +2,8 @@
 use mathlib.Core.List.{◌∷◌}
 use Prim.Native.Nat.{◌+◌, ◌≤◌}
 use Rattle.lines.specs.Text.{decimal_of}
-use Rattle.lines.specs.Puts.{Puts, puts_length, digits_fit, puts_number}
+use Rattle.lines.specs.Puts.{Puts}
+use Rattle.lines.proofs.Puts.{puts_length, digits_fit, puts_number}
 use borrow.Author.Rules.{rules}
 use Rattle.lines.proofs.put.put_number.Statement.{statement}
 use Rattle.lines.proofs.put.put_number.Tie as tie

@@ -4,7 +4,8 @@ use Prim.Native.Nat.{ℕ, ◌+◌, ◌-◌, ◌≤◌}
 use native.Mathlib.Omega.{arith}
 use lib.ListN.{length, take}
 use borrow.Author.Rules.{rules}
-use Rattle.lines.specs.Puts.{Puts, puts_none, puts_byte, puts_all, puts_length}
+use Rattle.lines.specs.Puts.{Puts}
+use Rattle.lines.proofs.Puts.{puts_none, puts_byte, puts_all, puts_length}
 use Rattle.lines.proofs.put.put_text.Statement.{statement}
 use Rattle.lines.proofs.put.put_text.Tie as tie
 

@@ -8,8 +8,8 @@ use native.Mathlib.Omega.{arith}
 use borrow.Author.Tests.{eq-eqb, ne_eqb}
 use Rattle.table.specs.Layout.{states_of, row_start}
 use Rattle.table.specs.Open.{row_empty}
-use Rattle.table.specs.Scan.{Scanned, scan_begins, scan_goes_on}
-use Rattle.table.specs.Answers.{scan_finds, scan_ends}
+use Rattle.table.proofs.Scan.{Scanned, scan_begins, scan_goes_on}
+use Rattle.table.proofs.Answers.{scan_finds, scan_ends}
 use Rattle.opening.proofs.faults.empty_row.Statement.{statement}
 use Rattle.opening.proofs.faults.empty_row.Tie as tie
 

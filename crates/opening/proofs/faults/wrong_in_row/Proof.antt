@@ -10,9 +10,9 @@ use lib.Dec.{eqb}
 use borrow.Author.Tests.{eqb-false, ne_eqb}
 use Rattle.table.specs.Layout.{states_of, target}
 use Rattle.table.specs.Open.{opens_row, target_wrong}
-use Rattle.table.specs.Targets.{TargetRight, target_says, target_wrong_lem}
-use Rattle.table.specs.Scan.{Scanned, scan_begins, scan_goes_on}
-use Rattle.table.specs.Answers.{scan_finds, scan_ends}
+use Rattle.table.proofs.Targets.{TargetRight, target_says, target_wrong_lem}
+use Rattle.table.proofs.Scan.{Scanned, scan_begins, scan_goes_on}
+use Rattle.table.proofs.Answers.{scan_finds, scan_ends}
 use Rattle.opening.proofs.faults.wrong_in_row.Statement.{statement}
 use Rattle.opening.proofs.faults.wrong_in_row.Tie as tie
 

@@ -7,8 +7,8 @@ use lib.Pow.{pow-add, shl_exact}
 use borrow.Author.Tests.{le-leb, lt-leb}
 use Rattle.table.specs.Layout.{states_of, sets_of, mark}
 use Rattle.table.specs.Open.{mark_wrong}
-use Rattle.table.specs.Scan.{Scanned, scan_begins, scan_goes_on}
-use Rattle.table.specs.Answers.{scan_finds, scan_ends}
+use Rattle.table.proofs.Scan.{Scanned, scan_begins, scan_goes_on}
+use Rattle.table.proofs.Answers.{scan_finds, scan_ends}
 use Rattle.opening.proofs.faults.wrong_mark.Statement.{statement}
 use Rattle.opening.proofs.faults.wrong_mark.Tie as tie
 

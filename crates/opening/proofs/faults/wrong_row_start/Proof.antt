@@ -8,9 +8,9 @@ use native.Mathlib.Decide.{dec_lt}
 use native.Mathlib.Omega.{arith}
 use Rattle.table.specs.Layout.{states_of, edges_of, row_start}
 use Rattle.table.specs.Open.{row_start_wrong}
-use Rattle.table.specs.Rows.{start_says, start_wrong}
-use Rattle.table.specs.Scan.{Scanned, scan_begins, scan_on}
-use Rattle.table.specs.Answers.{scan_finds, scan_ends}
+use Rattle.table.proofs.Rows.{start_says, start_wrong}
+use Rattle.table.proofs.Scan.{Scanned, scan_begins, scan_on}
+use Rattle.table.proofs.Answers.{scan_finds, scan_ends}
 use Rattle.opening.proofs.faults.wrong_row_start.Statement.{statement}
 use Rattle.opening.proofs.faults.wrong_row_start.Tie as tie
 

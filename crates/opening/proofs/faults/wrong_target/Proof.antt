@@ -9,10 +9,10 @@ use lib.Dec.{eqb}
 use borrow.Author.Rules.{rules}
 use Rattle.table.specs.Layout.{states_of, edges_of, row_start}
 use Rattle.table.specs.Open.{target_wrong}
-use Rattle.table.specs.Rows.{row_starts_to}
-use Rattle.table.specs.Targets.{first_opens}
-use Rattle.table.specs.Scan.{Scanned, scan_begins}
-use Rattle.table.specs.Answers.{scan_ends, part_finds, part_ends}
+use Rattle.table.proofs.Rows.{row_starts_to}
+use Rattle.table.proofs.Targets.{first_opens}
+use Rattle.table.proofs.Scan.{Scanned, scan_begins}
+use Rattle.table.proofs.Answers.{scan_ends, part_finds, part_ends}
 use Rattle.opening.proofs.faults.wrong_target.Statement.{statement}
 use Rattle.opening.proofs.faults.wrong_target.Tie as tie
 

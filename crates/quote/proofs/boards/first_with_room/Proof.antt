@@ -4,7 +4,7 @@ use mathlib.Core.Path.{sym, ap}
 use mathlib.Core.Option.{Option, get_or}
 use Prim.Native.Nat.{ℕ, ◌-◌}
 use native.Mathlib.Omega.{arith}
-use Rattle.table.specs.Scan.{Scanned, scan_begins, scan_goes_on, scan_first, scan_none}
+use Rattle.table.proofs.Scan.{Scanned, scan_begins, scan_goes_on, scan_first, scan_none}
 use Rattle.quote.specs.Boards.{boards, has_room, board_of}
 use Rattle.quote.proofs.boards.first_with_room.Statement.{statement}
 use Rattle.quote.proofs.boards.first_with_room.Tie as tie

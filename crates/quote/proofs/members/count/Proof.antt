@@ -10,10 +10,10 @@ use native.Mathlib.Omega.{arith}
 use lib.Dec.{eqb}
 use lib.Pow.{pow_pos}
 use Rattle.recorder.specs.Block.{Block}
-use Rattle.recorder.specs.Fits.{one_shl}
+use Rattle.recorder.proofs.Fits.{one_shl}
 use Rattle.table.specs.Layout.{states_of}
 use Rattle.table.specs.BlockOf.{block_of}
-use Rattle.table.specs.Inside.{mark_inside}
+use Rattle.table.proofs.Inside.{mark_inside}
 use Rattle.quote.specs.Members.{count_below, members_of}
 use Rattle.quote.proofs.members.count.Statement.{statement}
 use Rattle.quote.proofs.members.count.Tie as tie

@@ -6,8 +6,9 @@ use native.Mathlib.Omega.{arith}
 use lib.Pow.{pow_pos, pow_mono}
 use borrow.Author.Rules.{rules}
 use borrow.Author.Tests.{not-true, not-false}
-use Rattle.recorder.specs.Fits.{one_shl}
-use Rattle.recorder.specs.Slots.{slot_of, record_of_slot, InRange, next_slot}
+use Rattle.recorder.proofs.Fits.{one_shl}
+use Rattle.recorder.specs.Slots.{slot_of, record_of_slot, InRange}
+use Rattle.recorder.proofs.Slots.{next_slot}
 use Rattle.recorder.specs.declared.Record.{Record}
 use Rattle.recorder.proofs.Record.following.Statement.{statement}
 use Rattle.recorder.proofs.Record.following.Tie as tie

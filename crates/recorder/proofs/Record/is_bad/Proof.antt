@@ -1,7 +1,7 @@
 -- `Record::is_bad` meets its contract: its three tests are those of the rule, since 1 shifted by m is 2^m. Assumes nothing.
 use borrow.Author.Rules.{rules}
 use lib.Pow.{pow_pos}
-use Rattle.recorder.specs.Fits.{one_shl}
+use Rattle.recorder.proofs.Fits.{one_shl}
 use Rattle.recorder.proofs.Record.is_bad.Statement.{statement}
 use Rattle.recorder.proofs.Record.is_bad.Tie as tie
 

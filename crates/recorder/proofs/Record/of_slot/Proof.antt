@@ -2,7 +2,7 @@
 use native.Mathlib.Omega.{arith}
 use borrow.Author.Rules.{rules}
 use lib.Pow.{pow_pos}
-use Rattle.recorder.specs.Fits.{one_shl}
+use Rattle.recorder.proofs.Fits.{one_shl}
 use Rattle.recorder.specs.Slots.{record_of_slot}
 use Rattle.recorder.proofs.Record.of_slot.Statement.{statement}
 use Rattle.recorder.proofs.Record.of_slot.Tie as tie

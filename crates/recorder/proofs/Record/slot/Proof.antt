@@ -8,7 +8,7 @@ use native.Mathlib.Omega.{arith}
 use lib.Pow.{pow_pos}
 use borrow.Author.Rules.{rules}
 use mir.Val.{bool_byte}
-use Rattle.recorder.specs.Fits.{one_shl, slot_small}
+use Rattle.recorder.proofs.Fits.{one_shl, slot_small}
 use Rattle.recorder.specs.Slots.{bit_of, slot_of, InRange}
 use Rattle.recorder.specs.declared.Record.{Record}
 use Rattle.recorder.proofs.Record.slot.Statement.{statement}

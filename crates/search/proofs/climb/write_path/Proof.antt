@@ -9,7 +9,8 @@ use lib.Dec.{eqb}
 use mir.Val.{bool_byte}
 use lib.ListN.{length, set, take, drop, length-set, take-append-drop}
 use Rattle.order.specs.Word.{Word}
-use Rattle.recorder.specs.Slots.{record_of_slot, record_in, bit_lt}
+use Rattle.recorder.specs.Slots.{record_of_slot}
+use Rattle.recorder.proofs.Slots.{record_in, bit_lt}
 use Rattle.recorder.specs.declared.Record.{Record}
 use Rattle.writing.specs.Placed.{write_down}
 use Rattle.search.specs.Workspace.{origin_at, slot_at}

@@ -6,10 +6,11 @@ use Prim.Native.Nat.{◌+◌, ◌-◌}
 use native.Mathlib.Numerals.{add-one}
 use native.Mathlib.Omega.{arith}
 use Rattle.recorder.specs.Flag.{live_flag}
-use Rattle.table.specs.Inside.{row_inside, target_inside, mark_inside}
+use Rattle.table.proofs.Inside.{row_inside, target_inside, mark_inside}
 use Rattle.search.specs.Meet.{rest_same, rest_trans, asks_as}
-use Rattle.table.specs.Row.{row_to_lem}
-use Rattle.table.specs.Recording.{state_of, slots_few, state_in, step_range}
+use Rattle.table.proofs.Row.{row_to_lem}
+use Rattle.table.specs.Recording.{state_of}
+use Rattle.table.proofs.Recording.{slots_few, state_in, step_range}
 use Rattle.search.specs.Follow.{turned_begins, turned_ends, first_asks, other_asks}
 use Rattle.search.specs.Scanning.{ended, stopped, left_same}
 use Rattle.search.proofs.scan.scan.Statement.{statement}

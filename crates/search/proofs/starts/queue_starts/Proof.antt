@@ -8,8 +8,9 @@ use Rattle.recorder.specs.Flag.{live_flag}
 use Rattle.recorder.specs.Recorder.{start_of}
 use Rattle.table.specs.Layout.{states_of}
 use Rattle.table.specs.BlockOf.{block_of}
-use Rattle.table.specs.Inside.{mark_inside}
-use Rattle.table.specs.Recording.{slots_of, start_slot, block_states, made_range, made_slot}
+use Rattle.table.proofs.Inside.{mark_inside}
+use Rattle.table.specs.Recording.{slots_of}
+use Rattle.table.proofs.Recording.{start_slot, block_states, made_range, made_slot}
 use Rattle.search.specs.Meet.{SameRest, rest_same, rest_trans, meets_if, asks_as, if_says_as}
 use Rattle.search.specs.Starts.{StartsAsk, Starting, starting_begins, start_asks, starting_on, starting_ends}
 use Rattle.search.proofs.starts.queue_starts.Statement.{statement}

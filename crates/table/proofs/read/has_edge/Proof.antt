@@ -10,10 +10,10 @@ use lib.Dec.{eqb}
 use borrow.Author.Tests.{eq-eqb, ne_eqb}
 use Rattle.table.specs.Layout.{row_start, target}
 use Rattle.table.specs.BlockOf.{block_of}
-use Rattle.table.specs.Facts.{fails_if_not_passes}
-use Rattle.table.specs.Rows.{row_starts_to}
-use Rattle.table.specs.Sound.{edge_is}
-use Rattle.table.specs.Scan.{Scanned, scan_begins, scan_on, scan_goes_on}
+use Rattle.table.proofs.Facts.{fails_if_not_passes}
+use Rattle.table.proofs.Rows.{row_starts_to}
+use Rattle.table.proofs.Sound.{edge_is}
+use Rattle.table.proofs.Scan.{Scanned, scan_begins, scan_on, scan_goes_on}
 use Rattle.table.proofs.read.has_edge.Statement.{statement}
 use Rattle.table.proofs.read.has_edge.Tie as tie
 

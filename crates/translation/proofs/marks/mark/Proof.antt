@@ -6,8 +6,8 @@ use lib.Dec.{eqb}
 use mir.Val.{bool_byte}
 use borrow.Author.Rules.{rules}
 use Rattle.recorder.specs.Flag.{live_flag}
-use Rattle.table.specs.Inside.{mark_inside}
-use Rattle.translation.specs.Asks.{state_below, first_is, first_range, mark_is, byte_small}
+use Rattle.table.proofs.Inside.{mark_inside}
+use Rattle.translation.proofs.Asks.{state_below, first_is, first_range, mark_is, byte_small}
 use Rattle.translation.proofs.marks.mark.Statement.{statement}
 use Rattle.translation.proofs.marks.mark.Tie as tie
 

@@ -3,8 +3,8 @@
 use Prim.Native.Nat.{◌-◌}
 use native.Mathlib.Omega.{arith}
 use Rattle.recorder.specs.Flag.{live_flag}
-use Rattle.translation.specs.Asks.{Carries, record_range, next_is}
-use Rattle.translation.specs.Writing.{Marking, marking_begins, marking_on, marking_ends}
+use Rattle.translation.proofs.Asks.{Carries, record_range, next_is}
+use Rattle.translation.proofs.Writing.{Marking, marking_begins, marking_on, marking_ends}
 use Rattle.translation.proofs.marks.write_marks.Statement.{statement}
 use Rattle.translation.proofs.marks.write_marks.Tie as tie
 

@@ -9,9 +9,9 @@ use lib.Dec.{eqb}
 use mir.Val.{bool_byte}
 use borrow.Author.Rules.{rules}
 use Rattle.recorder.specs.Flag.{live_flag}
-use Rattle.table.specs.Inside.{row_inside}
+use Rattle.table.proofs.Inside.{row_inside}
 use Rattle.translation.specs.File.{row_of}
-use Rattle.translation.specs.Asks.{state_below, from_is, to_is, row_in, row_counted, row_few, byte_small}
+use Rattle.translation.proofs.Asks.{state_below, from_is, to_is, row_in, row_counted, row_few, byte_small}
 use Rattle.translation.proofs.rows.row_length.Statement.{statement}
 use Rattle.translation.proofs.rows.row_length.Tie as tie
 

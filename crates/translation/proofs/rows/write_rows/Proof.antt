@@ -4,8 +4,8 @@ use Prim.Native.Nat.{◌-◌}
 use native.Mathlib.Omega.{arith}
 use borrow.Author.Rules.{rules}
 use Rattle.recorder.specs.Flag.{live_flag}
-use Rattle.translation.specs.Writing.{Starting, starting_begins, starting_on, starting_ends}
-use Rattle.translation.specs.Asks.{Carries, slots_small, starts_small, record_range, next_is}
+use Rattle.translation.proofs.Writing.{Starting, starting_begins, starting_on, starting_ends}
+use Rattle.translation.proofs.Asks.{Carries, slots_small, starts_small, record_range, next_is}
 use Rattle.translation.proofs.rows.write_rows.Statement.{statement}
 use Rattle.translation.proofs.rows.write_rows.Tie as tie
 

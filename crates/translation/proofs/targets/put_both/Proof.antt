@@ -1,7 +1,7 @@
 -- `translation::targets::put_both` meets its contract: one number, or one after the other. Assumes nothing.
 use native.Mathlib.Omega.{arith}
 use borrow.Author.Rules.{rules}
-use Rattle.translation.specs.Writing.{one_put, both_room, both_put}
+use Rattle.translation.proofs.Writing.{one_put, both_room, both_put}
 use Rattle.translation.proofs.targets.put_both.Statement.{statement}
 use Rattle.translation.proofs.targets.put_both.Tie as tie
 

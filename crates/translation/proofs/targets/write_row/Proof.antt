@@ -9,14 +9,16 @@ use lib.Dec.{eqb}
 use Rattle.recorder.specs.Flag.{live_flag}
 use Rattle.table.specs.Layout.{target}
 use Rattle.table.specs.BlockOf.{block_of}
-use Rattle.table.specs.Inside.{row_inside, target_inside, mark_inside}
-use Rattle.table.specs.Row.{row_edge}
-use Rattle.table.specs.Recording.{next_of, state_of, from_of, to_of, state_in, slots_few, next_in}
+use Rattle.table.proofs.Inside.{row_inside, target_inside, mark_inside}
+use Rattle.table.proofs.Row.{row_edge}
+use Rattle.table.specs.Recording.{next_of, state_of, from_of, to_of}
+use Rattle.table.proofs.Recording.{state_in, slots_few, next_in}
 use Rattle.table.specs.declared.Table.{Table}
 use Rattle.translation.specs.File.{along_of}
-use Rattle.translation.specs.Asks.{Asks, RecordAt, slot_in, state_below, unsaved_is, from_is, to_is, row_in}
-use Rattle.translation.specs.Along.{zero_is, zero_range, along_slot}
-use Rattle.translation.specs.Writing.{Rowing, one_or_both, rowing_begins, along_is, rowing_room, rowing_on, rowing_ends}
+use Rattle.translation.specs.Asks.{Asks, RecordAt}
+use Rattle.translation.proofs.Asks.{slot_in, state_below, unsaved_is, from_is, to_is, row_in}
+use Rattle.translation.proofs.Along.{zero_is, zero_range, along_slot}
+use Rattle.translation.proofs.Writing.{Rowing, one_or_both, rowing_begins, along_is, rowing_room, rowing_on, rowing_ends}
 use Rattle.translation.proofs.targets.write_row.Statement.{statement}
 use Rattle.translation.proofs.targets.write_row.Tie as tie
 

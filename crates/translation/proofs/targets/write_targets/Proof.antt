@@ -3,8 +3,8 @@
 use Prim.Native.Nat.{◌-◌}
 use native.Mathlib.Omega.{arith}
 use Rattle.recorder.specs.Flag.{live_flag}
-use Rattle.translation.specs.Asks.{Carries, record_range, next_is}
-use Rattle.translation.specs.Writing.{Targeting, targeting_begins, targeting_room, targeting_on, targeting_ends}
+use Rattle.translation.proofs.Asks.{Carries, record_range, next_is}
+use Rattle.translation.proofs.Writing.{Targeting, targeting_begins, targeting_room, targeting_on, targeting_ends}
 use Rattle.translation.proofs.targets.write_targets.Statement.{statement}
 use Rattle.translation.proofs.targets.write_targets.Tie as tie
 

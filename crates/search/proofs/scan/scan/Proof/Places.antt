@@ -13,17 +13,19 @@ use lib.ListN.{get_or}
 use Rattle.recorder.specs.Flag.{live_flag}
 use Rattle.recorder.specs.Recorder.{step_of, bad_of}
 use Rattle.recorder.specs.Slots.{record_of_slot}
-use Rattle.recorder.specs.SlotGraph.{at, slot, at_next}
+use Rattle.recorder.specs.SlotGraph.{at, slot}
+use Rattle.recorder.proofs.SlotGraph.{at_next}
 use Rattle.recorder.specs.Says.{Leaves, StepSays}
 use Rattle.recorder.specs.declared.Record.{Record}
 use Rattle.table.specs.Layout.{states_of, row_start, target}
 use Rattle.table.specs.BlockOf.{block_of}
 use Rattle.table.specs.declared.Table.{Table}
-use Rattle.table.specs.Sound.{sound}
+use Rattle.table.proofs.Sound.{sound}
 use Rattle.search.specs.Workspace.{slot_at, kept_le}
 use Rattle.search.specs.Meet.{MeetSays, MeetIfSays, rest_trans, Met, says_as, if_says_as}
 use Rattle.search.specs.Scan.{ScanAsks}
-use Rattle.table.specs.Recording.{slots_of, graph_of, next_of, block_states, block_sets, state_of, from_of, to_of, state_in, step_slot}
+use Rattle.table.specs.Recording.{slots_of, graph_of, next_of, state_of, from_of, to_of}
+use Rattle.table.proofs.Recording.{block_states, block_sets, state_in, step_slot}
 use Rattle.search.specs.Follow.{Turned, edge_there, first_asks, turned_stops, turned_on}
 use Rattle.search.specs.Scanning.{Waiting, Within, Left, left_ended, left_stopped}
 use Rattle.search.proofs.scan.scan.Tie as tie
