@@ -3,7 +3,7 @@
 use Rattle.std.specs.Prelude.{◌≡◌, refl, Bool, true, false, not, ◌&&◌, ◌↔◌, List, ℕ, zero, suc, ◌-◌, ◌^◌, ◌<◌, ◌≤◌, eqb, leb, length, take}
 use Rattle.std.proofs.Common.{sym, ap, ap₂, ◌∙◌, true≢false, arith, get_or-take, length-take-le, eqb-true, eq-eqb, ne_eqb}
 use Rattle.std.proofs.lemmas.Bool.{false≢true}
-use Rattle.std.proofs.Math.Logic.{Iff·rfl, Iff·trans}
+use mathlib.Core.Logic.Iff
 use Rattle.recorder.specs.Block.{Block, Sound}
 use Rattle.recorder.specs.Lasso.{Lasso, Run, FairLoop, state}
 use Rattle.recorder.specs.Flag.{Flag, live_flag, LassoBy, flag_at}
@@ -34,7 +34,7 @@ not_bad B r h e = rw (ne_eqb r.s r.t (λ p. omega arith))
 -- what is looped depends only on which lassos there are
 pub looped_same : (L M : List ℕ → ℕ → Type 0) → ((ss : List ℕ) (l : ℕ) → L ss l ↔ M ss l) → (ss : List ℕ) (k : ℕ) (c : Choice)
     → Looped L ss k c ↔ Looped M ss k c
-looped_same L M e ss k none = Iff·rfl
+looped_same L M e ss k none = Iff.rfl
 looped_same L M e ss k (place l) = (λ h. (h.0, (e _ l).0 h.1), λ h. (h.0, (e _ l).1 h.1))
 
 -- the first k + 1 states
@@ -124,4 +124,4 @@ module _ (F : Flag) (B : Block) (ok : Sound B) (ss : List ℕ) (run : Run B ss) 
 -- ---- the flag of docs/RULES.md, "The recorder": the loop is a lasso
 pub bad_is_lasso : (B : Block) → Sound B → (ss : List ℕ) → Run B ss → (k : ℕ) → length ss ≡ suc (suc k) → (c : Choice) → Fits c (length ss)
     → (bad_of B (record_of (record_at live_flag B ss c) (suc k)) ≡ true) ↔ Looped (Lasso B) ss k c
-bad_is_lasso B ok ss run k len c f = Iff·trans (ends_bad live_flag B ok ss run k len c f) (looped_same _ _ (lasso_live B) ss k c)
+bad_is_lasso B ok ss run k len c f = Iff.trans (ends_bad live_flag B ok ss run k len c f) (looped_same _ _ (lasso_live B) ss k c)

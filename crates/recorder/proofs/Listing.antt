@@ -35,11 +35,11 @@ module _ (F : Flag) (B : Block) where
     next = next_slots;
     bad = bad_slot;
     start_listed = λ x. (
-      λ (s, h, e). (picked_listed B.start _ x B.n).1 (s, ok.start_in s h, h, Memᴰ.head e),
-      λ m. let (s, l, h, k) = (picked_listed B.start _ x B.n).0 m in (s, h, Memᴰ.eq_of_singleton k),
+      λ (s, h, e). (picked_listed B.start (λ s. slot B (start_of F B s) ∷ []) x B.n).1 (s, ok.start_in s h, h, Memᴰ.head e),
+      λ m. let (s, l, h, k) = (picked_listed B.start (λ s. slot B (start_of F B s) ∷ []) x B.n).0 m in (s, h, Memᴰ.eq_of_singleton k),
     );
     edge_listed = λ x y. (
-      λ (s', w, h, e). (picked_listed _ _ y B.n).1 (s', (ok.edge_in _ s' h).1, h, one x y s' w e),
+      λ (s', w, h, e). (picked_listed (B.edge (at B x).s) (two_steps x) y B.n).1 (s', (ok.edge_in _ s' h).1, h, one x y s' w e),
       λ m. let (s', l, h, k) = (picked_listed (B.edge (at B x).s) (two_steps x) y B.n).0 m in other x y s' h (Memᴰ.cases_cons k),
     );
     bad_tested = λ x. (λ h. h, λ h. h);

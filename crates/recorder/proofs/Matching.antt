@@ -31,7 +31,7 @@ module _ (F : Flag) (B : Block) where
   -- ---- from a run and a choice to records
   pub length-after : (r : Record) (ss : List ℕ) (c : Choice) → length (after F B r ss c) ≡ length ss
   length-after r [] c = refl
-  length-after r (s ∷ ss) c = ap suc (length-after _ ss (later c))
+  length-after r (s ∷ ss) c = ap suc (length-after (step_of F B r s (wished c)) ss (later c))
 
   pub length-record_at : (ss : List ℕ) (c : Choice) → length (record_at F B ss c) ≡ length ss
   length-record_at [] c = refl
@@ -39,7 +39,7 @@ module _ (F : Flag) (B : Block) where
 
   strike_after : (r : Record) (ss : List ℕ) (c : Choice) → strike (after F B r ss c) ≡ ss
   strike_after r [] c = refl
-  strike_after r (s ∷ ss) c = ap (λ (l : List ℕ). s ∷ l) (strike_after _ ss (later c))
+  strike_after r (s ∷ ss) c = ap (λ (l : List ℕ). s ∷ l) (strike_after (step_of F B r s (wished c)) ss (later c))
 
   -- striking out the record gives the run back
   pub strike_record_at : (ss : List ℕ) (c : Choice) → strike (record_at F B ss c) ≡ ss
@@ -51,7 +51,7 @@ module _ (F : Flag) (B : Block) where
       → record_of (after F B r ss c) i ≡ step_of F B (record_of (r ∷ after F B r ss c) i) (state ss i) (wish_at c i)
   step_after r [] c i h = absurd (omega arith)
   step_after r (s ∷ ss) c zero h = refl
-  step_after r (s ∷ ss) c (suc i) h = step_after _ ss (later c) i (le_of_suc-le-suc h)
+  step_after r (s ∷ ss) c (suc i) h = step_after (step_of F B r s (wished c)) ss (later c) i (le_of_suc-le-suc h)
 
   pub step_record_at : (ss : List ℕ) (c : Choice) (i : ℕ) → suc i < length ss
       → record_of (record_at F B ss c) (suc i) ≡ step_of F B (record_of (record_at F B ss c) i) (state ss (suc i)) (wish_at c i)
@@ -80,9 +80,9 @@ module _ (F : Flag) (B : Block) where
       → first_saved B (after F B r ss c) ≡ c
   found r [] none u f w = refl
   found r [] (place l) u f w = absurd (omega arith)
-  found r (s ∷ ss) none u f w = rw u (ap earlier (found _ ss none u f (λ i h. w (suc i) (suc-le-suc h))))
+  found r (s ∷ ss) none u f w = rw u (ap earlier (found (record { s = s; t = r.t; live = F.next r.live false (B.goal r.s); v = r.v }) ss none u f (λ i h. w (suc i) (suc-le-suc h))))
   found r (s ∷ ss) (place zero) u f w = simp (u, state_saved B r.s (w 0 (omega arith)))
-  found r (s ∷ ss) (place (suc l)) u f w = rw u (ap earlier (found _ ss (place l) u (le_of_suc-le-suc f) (λ i h. w (suc i) (suc-le-suc h))))
+  found r (s ∷ ss) (place (suc l)) u f w = rw u (ap earlier (found (record { s = s; t = r.t; live = F.next r.live false (B.goal r.s); v = r.v }) ss (place l) u (le_of_suc-le-suc f) (λ i h. w (suc i) (suc-le-suc h))))
 
   -- and its choice back
   pub choice_record_at : (ss : List ℕ) (c : Choice) → Fits c (length ss) → Within B ss → choice_of B (record_at F B ss c) ≡ c

@@ -1,7 +1,7 @@
 -- Laws of specs/Laws.antt. Assumes nothing.
 use Rattle.std.specs.Prelude.{◌≡◌, refl, Bool, true, false, not, ◌↔◌, ℕ, ◌^◌, ◌≤◌, ◌<◌}
 use Rattle.std.proofs.Common.{sym, ◌∙◌, true≢false, arith}
-use Rattle.std.proofs.Math.Logic.{Iff·rfl}
+use mathlib.Core.Logic.Iff
 use mathlib.Core.List.{List, []}
 use Rattle.order.proofs.Settled.{settled}
 use Rattle.recorder.specs.Flag.{live_flag}
@@ -30,7 +30,7 @@ use Rattle.stepping.specs.Laws.{MovedSays}
 pub fits_says : (n m : ℕ) (r : Record) (s' : ℕ)
     → (record_fits n m r s' ≡ true) ↔ ((((r.s < n) × (s' < n)) × (r.t ≤ n)) × (r.v < 2 ^ m))
 unfolding record_fits
-fits_says n m r s' = simp facts Iff·rfl
+fits_says n m r s' = simp facts Iff.rfl
 
 -- the block counts as the accepted table does
 pub block_counts : (b : List ℕ) (t : Table) → open_of b ≡ Accepted t → ((block_of b).n ≡ t.states) × ((block_of b).m ≡ t.sets)

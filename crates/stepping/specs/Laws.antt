@@ -2,7 +2,6 @@
 -- settles it, and that a record that moved is in range and went along an edge. Assumes nothing.
 use Rattle.std.specs.Prelude.{◌≡◌, refl, Bool, true, false, not, ◌↔◌, ℕ, ◌^◌, ◌≤◌, ◌<◌}
 use Rattle.std.proofs.Common.{sym, ◌∙◌, true≢false, arith}
-use Rattle.std.proofs.Math.Logic.{Iff·rfl}
 use mathlib.Core.List.{List, []}
 use Rattle.order.proofs.Settled.{settled}
 use Rattle.recorder.specs.Flag.{live_flag}

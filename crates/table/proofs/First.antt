@@ -2,7 +2,7 @@
 use Rattle.std.specs.Prelude.{◌≡◌, refl, Bool, true, false, ◌↔◌, ◌⊎◌, ℕ, zero, suc, ◌+◌, ◌-◌, ◌≤◌, ◌<◌}
 use Rattle.std.proofs.Common.{sym, ap, ◌∙◌, true≢false, inl, inr, eq-or-lt_of_le, arith}
 use Rattle.std.proofs.lemmas.Bool.{false≢true}
-use Rattle.std.proofs.Math.Logic.{Iff·trans}
+use mathlib.Core.Logic.Iff
 use Rattle.std.proofs.Math.Option.{Option, none, some, some-ne-none}
 use Rattle.std.proofs.Math.Decide.{dec_lt}
 use Rattle.table.specs.First.{first_from, first_in, is_some}
@@ -92,7 +92,7 @@ some_in lo hi P = (to (first_in lo hi P) (says lo hi P), from (first_in lo hi P)
 
 -- and there is none where every index fails
 pub none_in : (lo hi : ℕ) (P : ℕ → Bool) → (is_some (first_in lo hi P) ≡ false) ↔ ((j : ℕ) → lo ≤ j → j < hi → P j ≡ false)
-none_in lo hi P = Iff·trans (is_none (first_in lo hi P)) (first_none lo hi P)
+none_in lo hi P = Iff.trans (is_none (first_in lo hi P)) (first_none lo hi P)
   where
     is_none : (o : Option ℕ) → (is_some o ≡ false) ↔ (o ≡ none)
     is_none none = (λ e. refl, λ e. refl)

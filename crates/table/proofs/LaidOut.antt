@@ -1,7 +1,7 @@
 -- Laws of specs/LaidOut.antt. Assumes nothing.
 use Rattle.std.specs.Prelude.{◌≡◌, true, false, ◌↔◌, List, ℕ, ◌≤◌, length}
 use Rattle.std.proofs.Common.{ap, arith}
-use Rattle.std.proofs.Math.Logic.{Iff·rfl}
+use mathlib.Core.Logic.Iff
 use Rattle.table.specs.Layout.{states_of, edges_of, sets_of, rows_offset, targets_offset, marks_offset, rows_at, targets_at, marks_at, length_of, table_of}
 use Rattle.table.specs.Open.{outside, layout_fits}
 use Rattle.table.specs.Facts.{facts}
@@ -36,10 +36,10 @@ laid_by b t e states edges sets size =
 
 pub inside : (x low high : ℕ) → (outside x low high ≡ false) ↔ FromTo x low high
 unfolding outside
-inside x low high = simp facts Iff·rfl
+inside x low high = simp facts Iff.rfl
 
 pub layout_right : (b : List ℕ) → (layout_fits b ≡ true)
     ↔ ((((rows_offset b ≡ rows_at) × (targets_offset b ≡ targets_at (states_of b))) × (marks_offset b ≡ marks_at (states_of b) (edges_of b)))
     × (length b ≡ length_of (states_of b) (edges_of b)))
 unfolding layout_fits
-layout_right b = simp facts Iff·rfl
+layout_right b = simp facts Iff.rfl

@@ -1,7 +1,7 @@
 -- The block of a well-formed table is sound: edges and starts are states, and no mark names a set that is not below m.
 -- Assumes nothing.
 use Rattle.std.specs.Prelude.{◌≡◌, true, ◌↔◌, List, ℕ, suc, ◌+◌, ◌%◌, ◌^◌, ◌≤◌, ◌<◌}
-use Rattle.std.proofs.Math.Logic.{Iff·rfl}
+use mathlib.Core.Logic.Iff
 use Rattle.std.proofs.Math.Decide.{dec_lt}
 use Rattle.std.proofs.Common.{arith}
 use Rattle.std.proofs.Math.ListN.{get_or-eq_default}
@@ -20,7 +20,7 @@ use Rattle.table.specs.WellFormed.{WellFormed}
 pub edge_is : (b : List ℕ) (s s' : ℕ)
     → ((block_of b).edge s s' ≡ true) ↔ ((s < states_of b) × ((i : ℕ) × (row_start b s ≤ i) × (i < row_start b (suc s)) × (target b i ≡ s')))
 unfolding block_of edge_at
-edge_is b s s' = simp (facts, some_in) Iff·rfl
+edge_is b s s' = simp (facts, some_in) Iff.rfl
 
 module _ (b : List ℕ) (w : WellFormed b) where
   -- past the last state there are no marks: the bytes end

@@ -2,7 +2,6 @@
 -- lines 5 to 8 need this to read inside the bytes. Assumes nothing.
 use Rattle.std.specs.Prelude.{◌≡◌, true, false, ◌↔◌, List, ℕ, ◌≤◌, length}
 use Rattle.std.proofs.Common.{ap, arith}
-use Rattle.std.proofs.Math.Logic.{Iff·rfl}
 use Rattle.table.specs.Layout.{states_of, edges_of, sets_of, rows_offset, targets_offset, marks_offset, rows_at, targets_at, marks_at, length_of, table_of}
 use Rattle.table.specs.Open.{outside, layout_fits}
 use Rattle.table.specs.Facts.{facts}

@@ -1,7 +1,7 @@
 -- Laws of specs/Demand3.antt. Assumes nothing.
 use Rattle.std.specs.Prelude.{◌≡◌, refl, Bool, true, false, ◌↔◌, List, [], ◌∷◌, map, ℕ, zero, suc, ◌<◌, length}
 use Rattle.std.proofs.Common.{sym, ap, ap₂, subst, subst₂, ◌∙◌, arith, ext_get_or}
-use Rattle.std.proofs.Math.Logic.{Iff·trans}
+use mathlib.Core.Logic.Iff
 use Rattle.std.proofs.lemmas.Simd.{map_map}
 use Rattle.std.proofs.lemmas.List.{length-map}
 use Rattle.recorder.specs.Block.{Block, Sound}
@@ -149,6 +149,6 @@ translates_live b f =
       forth = t.forth;
       back = t.back;
       goals = t.goals;
-      bad = λ ss c k r h e. Iff·trans (t.bad ss c k r h e) (looped_same _ _ (lasso_live (block_of b)) ss k c);
+      bad = λ ss c k r h e. Iff.trans (t.bad ss c k r h e) (looped_same _ _ (lasso_live (block_of b)) ss k c);
       never = t.never;
     }
