@@ -13,7 +13,7 @@ use Rattle.table.specs.Open.{open_of}
 use Rattle.table.specs.InOrder.{end, ByTheList, position_after}
 use Rattle.table.proofs.InOrder.{line, by_the_list}
 use Rattle.table.specs.BlockOf.{block_of}
-use Rattle.table.specs.Facts.{facts}
+use Rattle.table.proofs.Facts.{facts}
 use Rattle.table.proofs.WellFormed.{well_formed, laid}
 use Rattle.table.proofs.Sound.{sound}
 use Rattle.table.specs.declared.Table.{Table}

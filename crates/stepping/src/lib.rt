@@ -8,7 +8,7 @@ use recorder::Record;
 use table::{Opened, Refusal};
 
 // What a step answers.
-#[derive(Drop)]
+#[derive(Clone, Copy)]
 pub enum Stepped {
     Moved(Record),
     Refused(Refusal),

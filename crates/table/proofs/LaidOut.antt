@@ -4,7 +4,7 @@ use Rattle.std.proofs.Common.{ap, arith}
 use mathlib.Core.Logic.Iff
 use Rattle.table.specs.Layout.{states_of, edges_of, sets_of, rows_offset, targets_offset, marks_offset, rows_at, targets_at, marks_at, length_of, table_of}
 use Rattle.table.specs.Open.{outside, layout_fits}
-use Rattle.table.specs.Facts.{facts}
+use Rattle.table.proofs.Facts.{facts}
 use Rattle.table.specs.declared.Table.{Table}
 use Rattle.table.specs.LaidOut.{FromTo, LaidOut}
 

@@ -7,7 +7,7 @@ use Rattle.table.specs.First.{first_in}
 use Rattle.table.proofs.First.{first_none, none_in}
 use Rattle.table.specs.Layout.{states_of, edges_of, row_start}
 use Rattle.table.specs.Open.{opens_row, row_start_wrong}
-use Rattle.table.specs.Facts.{facts}
+use Rattle.table.proofs.Facts.{facts}
 use Rattle.table.proofs.Facts.{passes_if_not_fails}
 use Rattle.table.specs.Rows.{RowsRise, RowsRight}
 

@@ -11,7 +11,7 @@ use Rattle.table.proofs.First.{some_in}
 use Rattle.table.specs.Layout.{states_of, sets_of, row_start, target, mark}
 use Rattle.table.specs.BlockOf.{edge_at, block_of}
 use Rattle.table.proofs.Bits.{low_bits}
-use Rattle.table.specs.Facts.{facts}
+use Rattle.table.proofs.Facts.{facts}
 use Rattle.table.proofs.Facts.{eqb_passes}
 use Rattle.table.proofs.Rows.{row_starts_to}
 use Rattle.table.specs.WellFormed.{WellFormed}

@@ -9,7 +9,7 @@ use Rattle.table.specs.Given.{first_given}
 use Rattle.table.proofs.Given.{test_off, index_off, none_given, part_on, part_off}
 use Rattle.table.specs.Layout.{kind_of, states_of, edges_of, sets_of, table_of}
 use Rattle.table.specs.Open.{outside, layout_fits, row_start_wrong, target_wrong, row_empty, mark_wrong, count_lines, row_lines, content_lines, answer_of, opened_by}
-use Rattle.table.specs.Facts.{facts}
+use Rattle.table.proofs.Facts.{facts}
 use Rattle.table.specs.LaidOut.{FromTo, LaidOut}
 use Rattle.table.proofs.LaidOut.{laid_by, inside, layout_right}
 use Rattle.table.specs.Rows.{RowsRight}

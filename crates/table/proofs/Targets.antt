@@ -7,7 +7,7 @@ use Rattle.table.specs.First.{first_in}
 use Rattle.table.proofs.First.{first_none, some_in}
 use Rattle.table.specs.Layout.{states_of, edges_of, row_start, target}
 use Rattle.table.specs.Open.{opens_row, target_wrong}
-use Rattle.table.specs.Facts.{facts}
+use Rattle.table.proofs.Facts.{facts}
 use Rattle.table.proofs.Facts.{passes_if_not_fails}
 use Rattle.table.specs.Rows.{RowsRight}
 use Rattle.table.proofs.Rows.{row_starts_rise, row_starts_to, row_of, opens_no_row}

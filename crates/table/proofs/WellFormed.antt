@@ -11,7 +11,7 @@ use Rattle.table.proofs.Given.{none_given, test_off, index_off}
 use Rattle.table.specs.Layout.{kind_of, states_of, edges_of, sets_of, rows_offset, targets_offset, marks_offset, rows_at, targets_at, marks_at, length_of, table_of, row_start, target, mark}
 use Rattle.table.specs.Open.{row_empty, mark_wrong, count_lines, row_lines, content_lines, lines_of, open_of, why_of}
 use Rattle.table.proofs.Bits.{low_bits}
-use Rattle.table.specs.Facts.{facts}
+use Rattle.table.proofs.Facts.{facts}
 use Rattle.table.specs.LaidOut.{LaidOut}
 use Rattle.table.proofs.LaidOut.{laid_by, inside, layout_right}
 use Rattle.table.specs.Rows.{RowsRight}

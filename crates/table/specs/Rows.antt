@@ -6,7 +6,6 @@ use Rattle.std.proofs.Math.Decide.{dec_lt}
 use Rattle.table.specs.First.{first_in}
 use Rattle.table.specs.Layout.{states_of, edges_of, row_start}
 use Rattle.table.specs.Open.{opens_row, row_start_wrong}
-use Rattle.table.specs.Facts.{facts}
 
 -- they never fall
 abbrev pub RowsRise : List ℕ → Type 0

@@ -9,7 +9,6 @@ use Rattle.table.specs.First.{first_in}
 use Rattle.table.specs.Given.{first_given}
 use Rattle.table.specs.Layout.{kind_of, states_of, edges_of, sets_of, rows_offset, targets_offset, marks_offset, rows_at, targets_at, marks_at, length_of, table_of, row_start, target, mark}
 use Rattle.table.specs.Open.{row_empty, mark_wrong, count_lines, row_lines, content_lines, lines_of, open_of, why_of}
-use Rattle.table.specs.Facts.{facts}
 use Rattle.table.specs.LaidOut.{LaidOut}
 use Rattle.table.specs.Rows.{RowsRight}
 use Rattle.table.specs.declared.Table.{Table}
@@ -25,9 +24,9 @@ pub record WellFormed (b : List ℕ) : Type 0 where
   pub edges_from : 1 ≤ edges_of b
   pub edges_to : edges_of b ≤ 1024
   pub sets_to : sets_of b ≤ 4
-  pub rows_offset_lem : rows_offset b ≡ rows_at
-  pub targets_offset_lem : targets_offset b ≡ targets_at (states_of b)
-  pub marks_offset_lem : marks_offset b ≡ marks_at (states_of b) (edges_of b)
+  pub rows_offset_is : rows_offset b ≡ rows_at
+  pub targets_offset_is : targets_offset b ≡ targets_at (states_of b)
+  pub marks_offset_is : marks_offset b ≡ marks_at (states_of b) (edges_of b)
   pub size : length b ≡ length_of (states_of b) (edges_of b)
   -- the first row start is 0, they never fall, the last is e
   pub rows : RowsRight b

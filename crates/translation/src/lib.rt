@@ -11,7 +11,7 @@ ghost use Rattle.translation.specs.Translated.{TranslateSays};
 use table::{Opened, Refusal};
 
 // What a translation answers: how many bytes were written, or why it is refused.
-#[derive(Drop)]
+#[derive(Clone, Copy)]
 pub enum Answer {
     Written(usize),
     Refused(Refusal),

@@ -86,9 +86,9 @@ module _ (m n : ℕ) (row : ℕ → List ℕ) (marks : ℕ → ℕ) (within : In
         edges_from = some-edge;
         edges_to = omega (arith, edges_is, within.edges_to);
         sets_to = omega (arith, sets_is, within.sets_to);
-        rows_offset_lem = file.rows_offset_read 1 m n row marks fits;
-        targets_offset_lem = file.targets_offset_read 1 m n row marks fits ∙ rw states_is;
-        marks_offset_lem = file.marks_offset_read 1 m n row marks fits ∙ rw (states_is, edges_is);
+        rows_offset_is = file.rows_offset_read 1 m n row marks fits;
+        targets_offset_is = file.targets_offset_read 1 m n row marks fits ∙ rw states_is;
+        marks_offset_is = file.marks_offset_read 1 m n row marks fits ∙ rw (states_is, edges_is);
         size = size ∙ rw (states_is, edges_is);
         rows = record {
           first_row = start_is 0 (omega arith);
