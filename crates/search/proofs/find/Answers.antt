@@ -90,7 +90,7 @@ overflow_sub-result-2 c =
     c.scan.new.1.1.0 c.in-Bad.head c.in-Bad.slot = (seen_as c.in-Bad.is c.scan.ensures).seen in
     let told : Told live_flag c.before.before.before.before.before.args.bytes.now
     (path_by (label_of c.before.before.before.before.before.args.t.states c.before.before.before.before.before.args.t.sets) c.before.before.before.before.before.args.slots c.scan.new.1.1.0 c.in-Bad.head) = let a = asks in stopped_tells live_flag _ _ _ _ _ _ _ a.formed a.laid.states_are a.laid.sets_are stopped in
-    omega (arith, c.write_path-unsaved.ensures.0, told.reports.place)
+    omega (arith, c.write_path-unsaved.ensures.value, told.reports.place)
 
 pub returns : goal.returns
 returns c =
@@ -105,7 +105,7 @@ returns c =
     (path_by (label_of c.before.before.before.before.before.args.t.states c.before.before.before.before.before.args.t.sets) c.before.before.before.before.before.args.slots c.scan.new.1.1.0 c.in-Bad.head) = let a = asks in stopped_tells live_flag _ _ _ _ _ _ _ a.formed a.laid.states_are a.laid.sets_are stopped in
     let length-is : c.path_length-len.result ≡ length (path_by (label_of c.before.before.before.before.before.args.t.states c.before.before.before.before.before.args.t.sets) c.before.before.before.before.before.args.slots c.scan.new.1.1.0 c.seen-1.given.0.0) = c.path_length-len.ensures _ in
     (
-      says_lasso _ _ told length-is c.write_path-unsaved.ensures.0 c.write_path-unsaved.ensures.1,
+      says_lasso _ _ told length-is c.write_path-unsaved.ensures.value c.write_path-unsaved.ensures.report_after,
       clears _ _ asks.slots_are rest c.clear-2.ensures,
     )
 
