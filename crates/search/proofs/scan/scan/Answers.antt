@@ -36,6 +36,7 @@ use Rattle.table.proofs.Recording.{slots_few, state_in, step_range}
 use Rattle.search.specs.Follow.{turned_begins, turned_ends, first_asks, other_asks}
 use Rattle.search.specs.Scanning.{ended, stopped, left_same}
 use Rattle.search.proofs.scan.scan.Goals as goal
+use Rattle.search.proofs.scan.scan.Goals.{else-queue-test, then-queue-test+then-loop-i-test+then-is_bad}
 
 pub queue-init : goal.queue-init
 queue-init c =
@@ -157,11 +158,10 @@ loop-i-init c =
     let r-is : c.of_slot-r.result ≡ at (block_of bytes-at) x-at = let l = asks.laid in
     c.of_slot-r.ensures ∙ ap₂ (λ (n m : ℕ). record_of_slot n m x-at) l.states_are l.sets_are in
     let from_is : c.row_start-i.result ≡ from_of bytes-at x-at = c.row_start-i.ensures ∙ ap (λ (r : Record). row_start bytes-at r.s) r-is in
-    let q = c in
-    let b = bytes-at q in
-    let v = q.before.queue.invariant in
+    let b = bytes-at in
+    let v = c.queue.invariant in
     record {
-      turned = rw (from_is, ← x-slot q) (turned_begins live_flag b (asks q).formed _ _ _ v.kept v.between q.queue-test.true);
+      turned = rw (from_is, ← x-slot) (turned_begins live_flag b asks.formed _ _ _ v.kept v.between c.queue-test.true);
       same = rest_same _ _;
       none = v.none;
     }
@@ -178,7 +178,7 @@ target-next-requires c =
     let r-is : c.of_slot-r.result ≡ at (block_of bytes-at) x-at = let l = asks.laid in
     c.of_slot-r.ensures ∙ ap₂ (λ (n m : ℕ). record_of_slot n m x-at) l.states_are l.sets_are in
     let to_is : c.row_start-to.result ≡ to_of bytes-at x-at = c.row_start-to.ensures
-    ∙ ap (row_start bytes-at) (add-one c.of-slot.result.s)
+    ∙ ap (row_start bytes-at) (add-one c.of_slot-r.result.s)
     ∙ ap (λ (r : Record). row_start bytes-at (suc r.s)) r-is in
     let below-to : c.loop-i.i < to_of bytes-at x-at = omega (arith, c.loop-i-test.true, to_is) in
     let e = row_to_lem bytes-at asks.formed (state_of bytes-at x-at) (state_in bytes-at x-at x_in) in
@@ -194,25 +194,25 @@ slot-y-requires c =
     let table_at : Table = c.args.t in
     let asks : ScanAsks live_flag bytes-at table_at c.args.slots c.args.work.now c.args.queued = c.requires in
     let x-at = get_or c.queue.work (c.args.slots + c.queue.head) 0 in
-    let head_of = c.before.queue.head in
+    let head_of = c.queue.head in
     let turned-at : Turned live_flag bytes-at c.loop-i.work head_of c.loop-i.tail x-at c.loop-i.i = c.loop-i.invariant.turned in
     let r-is : c.of_slot-r.result ≡ at (block_of bytes-at) x-at = let l = asks.laid in
     c.of_slot-r.ensures ∙ ap₂ (λ (n m : ℕ). record_of_slot n m x-at) l.states_are l.sets_are in
     let to_is : c.row_start-to.result ≡ to_of bytes-at x-at = c.row_start-to.ensures
-    ∙ ap (row_start bytes-at) (add-one c.of-slot.result.s)
+    ∙ ap (row_start bytes-at) (add-one c.of_slot-r.result.s)
     ∙ ap (λ (r : Record). row_start bytes-at (suc r.s)) r-is in
     let below-to : c.loop-i.i < to_of bytes-at x-at = omega (arith, c.loop-i-test.true, to_is) in
     let target_at = target bytes-at c.loop-i.i in
     let edge_at : (block_of bytes-at).edge (state_of bytes-at x-at) target_at ≡ true = edge_there live_flag _ asks.formed _ _ _ _ _ turned-at below-to in
     let step-at : Bool → Record = λ wish. step_of live_flag (block_of bytes-at) (at (block_of bytes-at) x-at) target_at wish in
-    let leaves : Leaves (block_of bytes-at) c.of-slot.result table_at.states
+    let leaves : Leaves (block_of bytes-at) c.of_slot-r.result table_at.states
     c.has_goal-goal.result c.fair-fair.result = record {
   states = block_states bytes-at ∙ sym asks.laid.states_are;
   goal_is = sym c.has_goal-goal.ensures;
   fair_is = sym c.fair-fair.ensures;
 } in
     let step_is : (wish : Bool) (next : ℕ) (r : Record) → next ≡ target_at
-    → StepSays c.of-slot.result table_at.states c.has_goal-goal.result c.fair-fair.result next wish r
+    → StepSays c.of_slot-r.result table_at.states c.has_goal-goal.result c.fair-fair.result next wish r
     → r ≡ step-at wish = λ wish next r e says. says _ leaves ∙ ap₂ (λ (q : Record) (s : ℕ). step_of live_flag (block_of bytes-at) q s wish) r-is e in
     let saving-is : c.step-saving.result ≡ step-at true = step_is true _ _ c.target-next.ensures c.step-saving.ensures in
     step_range live_flag _ _ asks.laid _ _ true _ saving-is asks.formed edge_at
@@ -239,25 +239,25 @@ meet-tail-requires c =
     let table_at : Table = c.args.t in
     let asks : ScanAsks live_flag bytes-at table_at c.args.slots c.args.work.now c.args.queued = c.requires in
     let x-at = get_or c.queue.work (c.args.slots + c.queue.head) 0 in
-    let head_of = c.before.queue.head in
+    let head_of = c.queue.head in
     let turned-at : Turned live_flag bytes-at c.loop-i.work head_of c.loop-i.tail x-at c.loop-i.i = c.loop-i.invariant.turned in
     let r-is : c.of_slot-r.result ≡ at (block_of bytes-at) x-at = let l = asks.laid in
     c.of_slot-r.ensures ∙ ap₂ (λ (n m : ℕ). record_of_slot n m x-at) l.states_are l.sets_are in
     let to_is : c.row_start-to.result ≡ to_of bytes-at x-at = c.row_start-to.ensures
-    ∙ ap (row_start bytes-at) (add-one c.of-slot.result.s)
+    ∙ ap (row_start bytes-at) (add-one c.of_slot-r.result.s)
     ∙ ap (λ (r : Record). row_start bytes-at (suc r.s)) r-is in
     let below-to : c.loop-i.i < to_of bytes-at x-at = omega (arith, c.loop-i-test.true, to_is) in
     let target_at = target bytes-at c.loop-i.i in
     let next-at : Bool → ℕ = λ wish. next_of live_flag bytes-at x-at target_at wish in
     let step-at : Bool → Record = λ wish. step_of live_flag (block_of bytes-at) (at (block_of bytes-at) x-at) target_at wish in
-    let leaves : Leaves (block_of bytes-at) c.of-slot.result table_at.states
+    let leaves : Leaves (block_of bytes-at) c.of_slot-r.result table_at.states
     c.has_goal-goal.result c.fair-fair.result = record {
   states = block_states bytes-at ∙ sym asks.laid.states_are;
   goal_is = sym c.has_goal-goal.ensures;
   fair_is = sym c.fair-fair.ensures;
 } in
     let step_is : (wish : Bool) (next : ℕ) (r : Record) → next ≡ target_at
-    → StepSays c.of-slot.result table_at.states c.has_goal-goal.result c.fair-fair.result next wish r
+    → StepSays c.of_slot-r.result table_at.states c.has_goal-goal.result c.fair-fair.result next wish r
     → r ≡ step-at wish = λ wish next r e says. says _ leaves ∙ ap₂ (λ (q : Record) (s : ℕ). step_of live_flag (block_of bytes-at) q s wish) r-is e in
     let saving-is : c.step-saving.result ≡ step-at true = step_is true _ _ c.target-next.ensures c.step-saving.ensures in
     let y-is : c.slot-y.result ≡ next-at true = step_slot live_flag _ _ asks.laid _ _ true _ saving-is _ c.slot-y.ensures in
@@ -273,28 +273,28 @@ slot-z-requires c =
     let table_at : Table = c.args.t in
     let asks : ScanAsks live_flag bytes-at table_at c.args.slots c.args.work.now c.args.queued = c.requires in
     let x-at = get_or c.queue.work (c.args.slots + c.queue.head) 0 in
-    let head_of = c.before.queue.head in
+    let head_of = c.queue.head in
     let turned-at : Turned live_flag bytes-at c.loop-i.work head_of c.loop-i.tail x-at c.loop-i.i = c.loop-i.invariant.turned in
     let r-is : c.of_slot-r.result ≡ at (block_of bytes-at) x-at = let l = asks.laid in
     c.of_slot-r.ensures ∙ ap₂ (λ (n m : ℕ). record_of_slot n m x-at) l.states_are l.sets_are in
     let to_is : c.row_start-to.result ≡ to_of bytes-at x-at = c.row_start-to.ensures
-    ∙ ap (row_start bytes-at) (add-one c.of-slot.result.s)
+    ∙ ap (row_start bytes-at) (add-one c.of_slot-r.result.s)
     ∙ ap (λ (r : Record). row_start bytes-at (suc r.s)) r-is in
     let below-to : c.loop-i.i < to_of bytes-at x-at = omega (arith, c.loop-i-test.true, to_is) in
     let target_at = target bytes-at c.loop-i.i in
     let edge_at : (block_of bytes-at).edge (state_of bytes-at x-at) target_at ≡ true = edge_there live_flag _ asks.formed _ _ _ _ _ turned-at below-to in
     let step-at : Bool → Record = λ wish. step_of live_flag (block_of bytes-at) (at (block_of bytes-at) x-at) target_at wish in
-    let leaves : Leaves (block_of bytes-at) c.of-slot.result table_at.states
+    let leaves : Leaves (block_of bytes-at) c.of_slot-r.result table_at.states
     c.has_goal-goal.result c.fair-fair.result = record {
   states = block_states bytes-at ∙ sym asks.laid.states_are;
   goal_is = sym c.has_goal-goal.ensures;
   fair_is = sym c.fair-fair.ensures;
 } in
     let step_is : (wish : Bool) (next : ℕ) (r : Record) → next ≡ target_at
-    → StepSays c.of-slot.result table_at.states c.has_goal-goal.result c.fair-fair.result next wish r
+    → StepSays c.of_slot-r.result table_at.states c.has_goal-goal.result c.fair-fair.result next wish r
     → r ≡ step-at wish = λ wish next r e says. says _ leaves ∙ ap₂ (λ (q : Record) (s : ℕ). step_of live_flag (block_of bytes-at) q s wish) r-is e in
-    let plain-is : c.step-plain.result ≡ step-at false = step_is false _ _ c.before.before.before.before.before.before.target.ensures c.step-plain.ensures in
-    let i = c in step_range live_flag _ _ (asks (queue-in i)).laid _ _ false _ plain-is (asks (queue-in i)).formed (edge_at i)
+    let plain-is : c.step-plain.result ≡ step-at false = step_is false _ _ c.target-next.ensures c.step-plain.ensures in
+    step_range live_flag _ _ asks.laid _ _ false _ plain-is asks.formed edge_at
 
 pub overflow_add-head-in-loop-i : goal.overflow_add-head-in-loop-i
 overflow_add-head-in-loop-i c =
@@ -302,7 +302,7 @@ overflow_add-head-in-loop-i c =
     let table_at : Table = c.args.t in
     let asks : ScanAsks live_flag bytes-at table_at c.args.slots c.args.work.now c.args.queued = c.requires in
     let head_in : c.queue.head < c.args.slots = omega (arith, c.queue-test.true, kept_le _ _ _ c.queue.invariant.kept, asks.slots_are) in
-    let i = c in omega (arith, head_in (queue-in i), slots_few (bytes-at (queue-in i)) (asks (queue-in i)).formed, (asks (queue-in i)).slots_are)
+    omega (arith, head_in, slots_few bytes-at asks.formed, asks.slots_are)
 
 pub meet_if-tail-requires : goal.meet_if-tail-requires
 unfolding block_of
@@ -311,37 +311,36 @@ meet_if-tail-requires c =
     let table_at : Table = c.args.t in
     let asks : ScanAsks live_flag bytes-at table_at c.args.slots c.args.work.now c.args.queued = c.requires in
     let x-at = get_or c.queue.work (c.args.slots + c.queue.head) 0 in
-    let head_of = c.before.queue.head in
+    let head_of = c.queue.head in
     let turned-at : Turned live_flag bytes-at c.loop-i.work head_of c.loop-i.tail x-at c.loop-i.i = c.loop-i.invariant.turned in
     let r-is : c.of_slot-r.result ≡ at (block_of bytes-at) x-at = let l = asks.laid in
     c.of_slot-r.ensures ∙ ap₂ (λ (n m : ℕ). record_of_slot n m x-at) l.states_are l.sets_are in
     let to_is : c.row_start-to.result ≡ to_of bytes-at x-at = c.row_start-to.ensures
-    ∙ ap (row_start bytes-at) (add-one c.of-slot.result.s)
+    ∙ ap (row_start bytes-at) (add-one c.of_slot-r.result.s)
     ∙ ap (λ (r : Record). row_start bytes-at (suc r.s)) r-is in
     let below-to : c.loop-i.i < to_of bytes-at x-at = omega (arith, c.loop-i-test.true, to_is) in
     let target_at = target bytes-at c.loop-i.i in
     let next-at : Bool → ℕ = λ wish. next_of live_flag bytes-at x-at target_at wish in
     let edge_at : (block_of bytes-at).edge (state_of bytes-at x-at) target_at ≡ true = edge_there live_flag _ asks.formed _ _ _ _ _ turned-at below-to in
     let step-at : Bool → Record = λ wish. step_of live_flag (block_of bytes-at) (at (block_of bytes-at) x-at) target_at wish in
-    let leaves : Leaves (block_of bytes-at) c.of-slot.result table_at.states
+    let leaves : Leaves (block_of bytes-at) c.of_slot-r.result table_at.states
     c.has_goal-goal.result c.fair-fair.result = record {
   states = block_states bytes-at ∙ sym asks.laid.states_are;
   goal_is = sym c.has_goal-goal.ensures;
   fair_is = sym c.fair-fair.ensures;
 } in
     let step_is : (wish : Bool) (next : ℕ) (r : Record) → next ≡ target_at
-    → StepSays c.of-slot.result table_at.states c.has_goal-goal.result c.fair-fair.result next wish r
+    → StepSays c.of_slot-r.result table_at.states c.has_goal-goal.result c.fair-fair.result next wish r
     → r ≡ step-at wish = λ wish next r e says. says _ leaves ∙ ap₂ (λ (q : Record) (s : ℕ). step_of live_flag (block_of bytes-at) q s wish) r-is e in
     let saving-is : c.step-saving.result ≡ step-at true = step_is true _ _ c.target-next.ensures c.step-saving.ensures in
-    let bad-is : c.is_bad.result ≡ bad_of (block_of bytes-at) (at (block_of bytes-at) (next-at true)) = let q = c in
-    let B = block_of (bytes-at q) in
-    c.is_bad.ensures B (block_sets (bytes-at q) ∙ sym (asks q).laid.sets_are)
-    ∙ ap (bad_of B) (saving-is ∙ sym (at_next live_flag B (sound (bytes-at q) (asks q).formed) (x-at q) target_at true edge_at)) in
+    let bad-is : c.is_bad.result ≡ bad_of (block_of bytes-at) (at (block_of bytes-at) (next-at true)) = let B = block_of bytes-at in
+    c.is_bad.ensures B (block_sets bytes-at ∙ sym asks.laid.sets_are)
+    ∙ ap (bad_of B) (saving-is ∙ sym (at_next live_flag B (sound bytes-at asks.formed) x-at target_at true edge_at)) in
     let good-at : ¬ (graph_of live_flag bytes-at).Bad (next-at true) = λ h. true≢false (sym h ∙ sym bad-is ∙ c.if-is_bad.false) in
     let y-is : c.slot-y.result ≡ next-at true = step_slot live_flag _ _ asks.laid _ _ true _ saving-is _ c.slot-y.ensures in
-    let met_at : MeetSays (slots_of bytes-at) c.before.loop.work c.before.loop.tail
-    (next-at true) (head_of + 2) c.meet-tail.result c.meet-tail.new.0 = says_as asks.slots_are y-is c.meet-tail.ensures in
-    let plain-is : c.step-plain.result ≡ step-at false = step_is false _ _ c.before.before.before.before.before.before.target.ensures c.step-plain.ensures in
+    let met_at : MeetSays (slots_of bytes-at) c.loop-i.work c.loop-i.tail
+    (next-at true) (head_of + 2) c.meet-tail.result c.meet-tail.new.work = says_as asks.slots_are y-is c.meet-tail.ensures in
+    let plain-is : c.step-plain.result ≡ step-at false = step_is false _ _ c.target-next.ensures c.step-plain.ensures in
     let z-is : c.slot-z.result ≡ next-at false = step_slot live_flag _ _ asks.laid _ _ false _ plain-is _ c.slot-z.ensures in
     asks_as asks.slots_are z-is (other_asks live_flag _ asks.formed _ _ _ _ _ turned-at below-to good-at _ _ met_at)
 
@@ -357,16 +356,14 @@ overflow_add-i c =
     let r-is : c.of_slot-r.result ≡ at (block_of bytes-at) x-at = let l = asks.laid in
     c.of_slot-r.ensures ∙ ap₂ (λ (n m : ℕ). record_of_slot n m x-at) l.states_are l.sets_are in
     let to_is : c.row_start-to.result ≡ to_of bytes-at x-at = c.row_start-to.ensures
-    ∙ ap (row_start bytes-at) (add-one c.of-slot.result.s)
+    ∙ ap (row_start bytes-at) (add-one c.of_slot-r.result.s)
     ∙ ap (λ (r : Record). row_start bytes-at (suc r.s)) r-is in
     let below-to : c.loop-i.i < to_of bytes-at x-at = omega (arith, c.loop-i-test.true, to_is) in
-    let i = c in
-    let q = queue-in i in
-    let e = row_to_lem (bytes-at q) (asks q).formed (state_of (bytes-at q) (x-at q)) (state_in (bytes-at q) (x-at q) (x_in q)) in
-    omega (arith, below-to i, e, (asks q).laid.edges_are, (asks q).laid.edges_to)
+    let e = row_to_lem bytes-at asks.formed (state_of bytes-at x-at) (state_in bytes-at x-at x_in) in
+    omega (arith, below-to, e, asks.laid.edges_are, asks.laid.edges_to)
 
 pub loop-i-smaller : goal.loop-i-smaller
-loop-i-smaller c = let i = c in omega (arith, i.loop-test.true)
+loop-i-smaller c = omega (arith, c.loop-i-test.true)
 
 pub loop-i-preserved : goal.loop-i-preserved
 unfolding block_of
@@ -375,47 +372,45 @@ loop-i-preserved c =
     let x-at = get_or c.queue.work (c.args.slots + c.queue.head) 0 in
     let table_at : Table = c.args.t in
     let asks : ScanAsks live_flag bytes-at table_at c.args.slots c.args.work.now c.args.queued = c.requires in
-    let head_of = c.before.queue.head in
+    let head_of = c.queue.head in
     let turned-at : Turned live_flag bytes-at c.loop-i.work head_of c.loop-i.tail x-at c.loop-i.i = c.loop-i.invariant.turned in
     let r-is : c.of_slot-r.result ≡ at (block_of bytes-at) x-at = let l = asks.laid in
     c.of_slot-r.ensures ∙ ap₂ (λ (n m : ℕ). record_of_slot n m x-at) l.states_are l.sets_are in
     let to_is : c.row_start-to.result ≡ to_of bytes-at x-at = c.row_start-to.ensures
-    ∙ ap (row_start bytes-at) (add-one c.of-slot.result.s)
+    ∙ ap (row_start bytes-at) (add-one c.of_slot-r.result.s)
     ∙ ap (λ (r : Record). row_start bytes-at (suc r.s)) r-is in
     let below-to : c.loop-i.i < to_of bytes-at x-at = omega (arith, c.loop-i-test.true, to_is) in
     let target_at = target bytes-at c.loop-i.i in
     let next-at : Bool → ℕ = λ wish. next_of live_flag bytes-at x-at target_at wish in
     let edge_at : (block_of bytes-at).edge (state_of bytes-at x-at) target_at ≡ true = edge_there live_flag _ asks.formed _ _ _ _ _ turned-at below-to in
     let step-at : Bool → Record = λ wish. step_of live_flag (block_of bytes-at) (at (block_of bytes-at) x-at) target_at wish in
-    let leaves : Leaves (block_of bytes-at) c.of-slot.result table_at.states
+    let leaves : Leaves (block_of bytes-at) c.of_slot-r.result table_at.states
     c.has_goal-goal.result c.fair-fair.result = record {
   states = block_states bytes-at ∙ sym asks.laid.states_are;
   goal_is = sym c.has_goal-goal.ensures;
   fair_is = sym c.fair-fair.ensures;
 } in
     let step_is : (wish : Bool) (next : ℕ) (r : Record) → next ≡ target_at
-    → StepSays c.of-slot.result table_at.states c.has_goal-goal.result c.fair-fair.result next wish r
+    → StepSays c.of_slot-r.result table_at.states c.has_goal-goal.result c.fair-fair.result next wish r
     → r ≡ step-at wish = λ wish next r e says. says _ leaves ∙ ap₂ (λ (q : Record) (s : ℕ). step_of live_flag (block_of bytes-at) q s wish) r-is e in
     let saving-is : c.step-saving.result ≡ step-at true = step_is true _ _ c.target-next.ensures c.step-saving.ensures in
-    let bad-is : c.is_bad.result ≡ bad_of (block_of bytes-at) (at (block_of bytes-at) (next-at true)) = let q = c in
-    let B = block_of (bytes-at q) in
-    c.is_bad.ensures B (block_sets (bytes-at q) ∙ sym (asks q).laid.sets_are)
-    ∙ ap (bad_of B) (saving-is ∙ sym (at_next live_flag B (sound (bytes-at q) (asks q).formed) (x-at q) target_at true edge_at)) in
+    let bad-is : c.is_bad.result ≡ bad_of (block_of bytes-at) (at (block_of bytes-at) (next-at true)) = let B = block_of bytes-at in
+    c.is_bad.ensures B (block_sets bytes-at ∙ sym asks.laid.sets_are)
+    ∙ ap (bad_of B) (saving-is ∙ sym (at_next live_flag B (sound bytes-at asks.formed) x-at target_at true edge_at)) in
     let good-at : ¬ (graph_of live_flag bytes-at).Bad (next-at true) = λ h. true≢false (sym h ∙ sym bad-is ∙ c.if-is_bad.false) in
     let y-is : c.slot-y.result ≡ next-at true = step_slot live_flag _ _ asks.laid _ _ true _ saving-is _ c.slot-y.ensures in
-    let met_at : MeetSays (slots_of bytes-at) c.before.loop.work c.before.loop.tail
-    (next-at true) (head_of + 2) c.meet-tail.result c.meet-tail.new.0 = says_as asks.slots_are y-is c.meet-tail.ensures in
-    let plain-is : c.step-plain.result ≡ step-at false = step_is false _ _ c.before.before.before.before.before.before.target.ensures c.step-plain.ensures in
+    let met_at : MeetSays (slots_of bytes-at) c.loop-i.work c.loop-i.tail
+    (next-at true) (head_of + 2) c.meet-tail.result c.meet-tail.new.work = says_as asks.slots_are y-is c.meet-tail.ensures in
+    let plain-is : c.step-plain.result ≡ step-at false = step_is false _ _ c.target-next.ensures c.step-plain.ensures in
     let z-is : c.slot-z.result ≡ next-at false = step_slot live_flag _ _ asks.laid _ _ false _ plain-is _ c.slot-z.ensures in
     let unsaved_is : eqb c.of_slot-r.result.t table_at.states ≡ eqb (at (block_of bytes-at) x-at).t (states_of bytes-at) = ap₂ (λ (r : Record) (n : ℕ). eqb r.t n) r-is asks.laid.states_are in
     let met-if-at : MeetIfSays (eqb (at (block_of bytes-at) x-at).t (states_of bytes-at))
-    (slots_of bytes-at) c.meet.new.0 c.meet.result
-    (next-at false) (head_of + 2) c.meet_if-tail.result c.meet_if-tail.new.1.0 = let i = c in if_says_as (unsaved_is (apart_of i.before.before)) (asks (queue-in i)).slots_are z-is c.meet_if-tail.ensures in
-    let done_at : Turned live_flag bytes-at c.meet_if-tail.new.1.0 head_of c.meet_if-tail.result x-at (c.before.loop.i + 1)
-    × Met (slots_of bytes-at) c.before.loop.work c.before.loop.tail c.meet_if-tail.result c.meet_if-tail.new.1.0 = turned_on live_flag _ asks.formed _ _ _ _ _ turned-at below-to good-at _ _ met_at _ _ met-if-at in
-    let i = c in
+    (slots_of bytes-at) c.meet-tail.new.work c.meet-tail.result
+    (next-at false) (head_of + 2) c.meet_if-tail.result c.meet_if-tail.new.work = if_says_as unsaved_is asks.slots_are z-is c.meet_if-tail.ensures in
+    let done_at : Turned live_flag bytes-at c.meet_if-tail.new.work head_of c.meet_if-tail.result x-at (c.loop-i.i + 1)
+    × Met (slots_of bytes-at) c.loop-i.work c.loop-i.tail c.meet_if-tail.result c.meet_if-tail.new.work = turned_on live_flag _ asks.formed _ _ _ _ _ turned-at below-to good-at _ _ met_at _ _ met-if-at in
     let (t, m) = done_at in
-    record { turned = t; same = rest_trans i.before.loop.invariant.same m.same; none = i.before.loop.invariant.none }
+    record { turned = t; same = rest_trans c.loop-i.invariant.same m.same; none = c.loop-i.invariant.none }
 
 pub overflow_add-head-in-queue : goal.overflow_add-head-in-queue
 overflow_add-head-in-queue c =
@@ -423,7 +418,7 @@ overflow_add-head-in-queue c =
     let table_at : Table = c.args.t in
     let asks : ScanAsks live_flag bytes-at table_at c.args.slots c.args.work.now c.args.queued = c.requires in
     let head_in : c.queue.head < c.args.slots = omega (arith, c.queue-test.true, kept_le _ _ _ c.queue.invariant.kept, asks.slots_are) in
-    let q = c in omega (arith, head_in q, slots_few (bytes-at q) (asks q).formed, (asks q).slots_are)
+    omega (arith, head_in, slots_few bytes-at asks.formed, asks.slots_are)
 
 pub queue-smaller : goal.queue-smaller
 queue-smaller c =
@@ -443,108 +438,98 @@ queue-preserved c =
     let r-is : c.of_slot-r.result ≡ at (block_of bytes-at) x-at = let l = asks.laid in
     c.of_slot-r.ensures ∙ ap₂ (λ (n m : ℕ). record_of_slot n m x-at) l.states_are l.sets_are in
     let to_is : c.row_start-to.result ≡ to_of bytes-at x-at = c.row_start-to.ensures
-    ∙ ap (row_start bytes-at) (add-one c.of-slot.result.s)
+    ∙ ap (row_start bytes-at) (add-one c.of_slot-r.result.s)
     ∙ ap (λ (r : Record). row_start bytes-at (suc r.s)) r-is in
-    let q = c in
     let v = c.loop-i.invariant in
     record {
       kept = v.turned.kept;
-      same = rest_trans q.before.queue.invariant.same v.same;
-      between = rw (add-one q.before.queue.head) (turned_ends live_flag _ (asks q).formed _ _ _ _ _ v.turned (omega (arith, c.loop-i-test.false, to_is, v.turned.to)));
+      same = rest_trans c.queue.invariant.same v.same;
+      between = rw (add-one c.queue.head) (turned_ends live_flag _ asks.formed _ _ _ _ _ v.turned (omega (arith, c.loop-i-test.false, to_is, v.turned.to)));
       none = v.none;
     }
 
 pub returns-then-bad-slots : goal.returns-then-bad-slots
 unfolding block_of
 returns-then-bad-slots c =
-    let LeftAt : Type 0 = Left live_flag c.args.bytes.now c.args.slots c.args.work.now c.queue-test.work c.queue-test.bad c.queue.head in
     let bytes-at = c.args.bytes.now in
     let table_at : Table = c.args.t in
     let asks : ScanAsks live_flag bytes-at table_at c.args.slots c.args.work.now c.args.queued = c.requires in
-    let head_of = c.before.queue.head in
+    let head_of = c.queue.head in
     let x-at = get_or c.queue.work (c.args.slots + c.queue.head) 0 in
-    let turned-at : Turned live_flag bytes-at c.loop-i.work head_of c.loop-i.tail x-at c.loop-i.i = c.loop-i.invariant.turned in
-    let r-is : c.of_slot-r.result ≡ at (block_of bytes-at) x-at = let l = asks.laid in
-    c.of_slot-r.ensures ∙ ap₂ (λ (n m : ℕ). record_of_slot n m x-at) l.states_are l.sets_are in
-    let to_is : c.row_start-to.result ≡ to_of bytes-at x-at = c.row_start-to.ensures
-    ∙ ap (row_start bytes-at) (add-one c.of-slot.result.s)
-    ∙ ap (λ (r : Record). row_start bytes-at (suc r.s)) r-is in
-    let below-to : c.loop-i.i < to_of bytes-at x-at = omega (arith, c.loop-i-test.true, to_is) in
-    let target_at = target bytes-at c.loop-i.i in
-    let next-at : Bool → ℕ = λ wish. next_of live_flag bytes-at x-at target_at wish in
-    let step-at : Bool → Record = λ wish. step_of live_flag (block_of bytes-at) (at (block_of bytes-at) x-at) target_at wish in
-    let leaves : Leaves (block_of bytes-at) c.of-slot.result table_at.states
-    c.has_goal-goal.result c.fair-fair.result = record {
-  states = block_states bytes-at ∙ sym asks.laid.states_are;
-  goal_is = sym c.has_goal-goal.ensures;
-  fair_is = sym c.fair-fair.ensures;
-} in
-    let step_is : (wish : Bool) (next : ℕ) (r : Record) → next ≡ target_at
-    → StepSays c.of-slot.result table_at.states c.has_goal-goal.result c.fair-fair.result next wish r
-    → r ≡ step-at wish = λ wish next r e says. says _ leaves ∙ ap₂ (λ (q : Record) (s : ℕ). step_of live_flag (block_of bytes-at) q s wish) r-is e in
-    let saving-is : c.step-saving.result ≡ step-at true = step_is true _ _ c.target-next.ensures c.step-saving.ensures in
-    let y-is : c.slot-y.result ≡ next-at true = step_slot live_flag _ _ asks.laid _ _ true _ saving-is _ c.slot-y.ensures in
-    let edge_at : (block_of bytes-at).edge (state_of bytes-at x-at) target_at ≡ true = edge_there live_flag _ asks.formed _ _ _ _ _ turned-at below-to in
-    let bad-is : c.is_bad.result ≡ bad_of (block_of bytes-at) (at (block_of bytes-at) (next-at true)) = let q = c in
-    let B = block_of (bytes-at q) in
-    c.is_bad.ensures B (block_sets (bytes-at q) ∙ sym (asks q).laid.sets_are)
-    ∙ ap (bad_of B) (saving-is ∙ sym (at_next live_flag B (sound (bytes-at q) (asks q).formed) (x-at q) target_at true edge_at)) in
-    let at-bad : (w : List ℕ) (bad : ℕ) → w ≡ c.before.loop.work → bad ≡ c.slot-y.result
-    → Left live_flag bytes-at c.before.before.before.before.args.slots c.before.before.before.before.args.work.now w bad head_of = λ w bad e d. let f = asks.formed in
-    left_stopped asks.slots_are (first_asks live_flag _ f _ _ _ _ _ turned-at below-to).slot_in
-    (rest_trans c.queue.invariant.same c.loop-i.invariant.same)
-    (turned_stops live_flag _ f _ _ _ _ _ turned-at below-to (sym bad-is ∙ c.if-is_bad.true))
-    e (d ∙ y-is) in
-    let left : LeftAt = ⊎_elim (λ l. let (test, w, bad, tail) = l in left_ended c.requires.slots_are c.queue.invariant test.false w bad) (λ r.
-    let (q, x, o, g, f, r1, r2, l, t, n, s, y, b, i, w, bad, tail) = r in
-    let p : tie.Then1 = record { before = record { before = record { before = record { before = record { before = record { before = record { before = record { before = record { before = record { before = record { before = record { before = record { before = record { before = c; queue-test = q }; slice-known2 = x }; of-slot = o }; has-goal = g }; fair = f }; row-start = r1 }; row-start2 = r2 }; loop = l }; loop-test = t }; target = n }; step = s }; slot = y }; is-bad = b }; if1 = i } in
-    at-bad p _ _ w bad) c.queue-test.branch in
+    let left : Left live_flag bytes-at c.args.slots c.args.work.now c.queue-test.work c.queue-test.bad head_of = elim c.queue-test.branch [
+      else-queue-test w ↦ left_ended c.requires.slots_are c.queue.invariant w.queue-test.false w.work-is w.bad-is
+      | then-queue-test+then-loop-i-test+then-is_bad w ↦
+            let turned-at : Turned live_flag bytes-at w.loop-i.work head_of w.loop-i.tail x-at w.loop-i.i = w.loop-i.invariant.turned in
+            let r-is : w.of_slot-r.result ≡ at (block_of bytes-at) x-at = let l = asks.laid in
+            w.of_slot-r.ensures ∙ ap₂ (λ (n m : ℕ). record_of_slot n m x-at) l.states_are l.sets_are in
+            let to_is : w.row_start-to.result ≡ to_of bytes-at x-at = w.row_start-to.ensures
+            ∙ ap (row_start bytes-at) (add-one w.of_slot-r.result.s)
+            ∙ ap (λ (r : Record). row_start bytes-at (suc r.s)) r-is in
+            let below-to : w.loop-i.i < to_of bytes-at x-at = omega (arith, w.loop-i-test.true, to_is) in
+            let target_at = target bytes-at w.loop-i.i in
+            let next-at : Bool → ℕ = λ wish. next_of live_flag bytes-at x-at target_at wish in
+            let step-at : Bool → Record = λ wish. step_of live_flag (block_of bytes-at) (at (block_of bytes-at) x-at) target_at wish in
+            let leaves : Leaves (block_of bytes-at) w.of_slot-r.result table_at.states
+            w.has_goal-goal.result w.fair-fair.result = record {
+            states = block_states bytes-at ∙ sym asks.laid.states_are;
+            goal_is = sym w.has_goal-goal.ensures;
+            fair_is = sym w.fair-fair.ensures;
+            } in
+            let step_is : (wish : Bool) (next : ℕ) (r : Record) → next ≡ target_at
+            → StepSays w.of_slot-r.result table_at.states w.has_goal-goal.result w.fair-fair.result next wish r
+            → r ≡ step-at wish = λ wish next r e says. says _ leaves ∙ ap₂ (λ (q : Record) (s : ℕ). step_of live_flag (block_of bytes-at) q s wish) r-is e in
+            let saving-is : w.step-saving.result ≡ step-at true = step_is true _ _ w.target-next.ensures w.step-saving.ensures in
+            let y-is : w.slot-y.result ≡ next-at true = step_slot live_flag _ _ asks.laid _ _ true _ saving-is _ w.slot-y.ensures in
+            let edge_at : (block_of bytes-at).edge (state_of bytes-at x-at) target_at ≡ true = edge_there live_flag _ asks.formed _ _ _ _ _ turned-at below-to in
+            let bad-is : w.is_bad.result ≡ bad_of (block_of bytes-at) (at (block_of bytes-at) (next-at true)) = let B = block_of bytes-at in
+            w.is_bad.ensures B (block_sets bytes-at ∙ sym asks.laid.sets_are)
+            ∙ ap (bad_of B) (saving-is ∙ sym (at_next live_flag B (sound bytes-at asks.formed) x-at target_at true edge_at)) in
+            left_stopped asks.slots_are (first_asks live_flag _ asks.formed _ _ _ _ _ turned-at below-to).slot_in
+            (rest_trans c.queue.invariant.same w.loop-i.invariant.same)
+            (turned_stops live_flag _ asks.formed _ _ _ _ _ turned-at below-to (sym bad-is ∙ w.if-is_bad.true))
+            w.work-is (w.bad-is ∙ y-is)
+    ] in
     elim left [ ended e s k ↦ absurd (omega (arith, c.if-bad-slots.true)) | stopped l s k ↦ record { same = s; seen = k } ]
 
 pub returns : goal.returns
 unfolding block_of
 returns c =
-    let LeftAt : Type 0 = Left live_flag c.args.bytes.now c.args.slots c.args.work.now c.queue-test.work c.queue-test.bad c.queue.head in
     let bytes-at = c.args.bytes.now in
     let table_at : Table = c.args.t in
     let asks : ScanAsks live_flag bytes-at table_at c.args.slots c.args.work.now c.args.queued = c.requires in
-    let head_of = c.before.queue.head in
+    let head_of = c.queue.head in
     let x-at = get_or c.queue.work (c.args.slots + c.queue.head) 0 in
-    let turned-at : Turned live_flag bytes-at c.loop-i.work head_of c.loop-i.tail x-at c.loop-i.i = c.loop-i.invariant.turned in
-    let r-is : c.of_slot-r.result ≡ at (block_of bytes-at) x-at = let l = asks.laid in
-    c.of_slot-r.ensures ∙ ap₂ (λ (n m : ℕ). record_of_slot n m x-at) l.states_are l.sets_are in
-    let to_is : c.row_start-to.result ≡ to_of bytes-at x-at = c.row_start-to.ensures
-    ∙ ap (row_start bytes-at) (add-one c.of-slot.result.s)
-    ∙ ap (λ (r : Record). row_start bytes-at (suc r.s)) r-is in
-    let below-to : c.loop-i.i < to_of bytes-at x-at = omega (arith, c.loop-i-test.true, to_is) in
-    let target_at = target bytes-at c.loop-i.i in
-    let next-at : Bool → ℕ = λ wish. next_of live_flag bytes-at x-at target_at wish in
-    let step-at : Bool → Record = λ wish. step_of live_flag (block_of bytes-at) (at (block_of bytes-at) x-at) target_at wish in
-    let leaves : Leaves (block_of bytes-at) c.of-slot.result table_at.states
-    c.has_goal-goal.result c.fair-fair.result = record {
-  states = block_states bytes-at ∙ sym asks.laid.states_are;
-  goal_is = sym c.has_goal-goal.ensures;
-  fair_is = sym c.fair-fair.ensures;
-} in
-    let step_is : (wish : Bool) (next : ℕ) (r : Record) → next ≡ target_at
-    → StepSays c.of-slot.result table_at.states c.has_goal-goal.result c.fair-fair.result next wish r
-    → r ≡ step-at wish = λ wish next r e says. says _ leaves ∙ ap₂ (λ (q : Record) (s : ℕ). step_of live_flag (block_of bytes-at) q s wish) r-is e in
-    let saving-is : c.step-saving.result ≡ step-at true = step_is true _ _ c.target-next.ensures c.step-saving.ensures in
-    let y-is : c.slot-y.result ≡ next-at true = step_slot live_flag _ _ asks.laid _ _ true _ saving-is _ c.slot-y.ensures in
-    let edge_at : (block_of bytes-at).edge (state_of bytes-at x-at) target_at ≡ true = edge_there live_flag _ asks.formed _ _ _ _ _ turned-at below-to in
-    let bad-is : c.is_bad.result ≡ bad_of (block_of bytes-at) (at (block_of bytes-at) (next-at true)) = let q = c in
-    let B = block_of (bytes-at q) in
-    c.is_bad.ensures B (block_sets (bytes-at q) ∙ sym (asks q).laid.sets_are)
-    ∙ ap (bad_of B) (saving-is ∙ sym (at_next live_flag B (sound (bytes-at q) (asks q).formed) (x-at q) target_at true edge_at)) in
-    let at-bad : (w : List ℕ) (bad : ℕ) → w ≡ c.before.loop.work → bad ≡ c.slot-y.result
-    → Left live_flag bytes-at c.before.before.before.before.args.slots c.before.before.before.before.args.work.now w bad head_of = λ w bad e d. let f = asks.formed in
-    left_stopped asks.slots_are (first_asks live_flag _ f _ _ _ _ _ turned-at below-to).slot_in
-    (rest_trans c.queue.invariant.same c.loop-i.invariant.same)
-    (turned_stops live_flag _ f _ _ _ _ _ turned-at below-to (sym bad-is ∙ c.if-is_bad.true))
-    e (d ∙ y-is) in
-    let left : LeftAt = ⊎_elim (λ l. let (test, w, bad, tail) = l in left_ended c.requires.slots_are c.queue.invariant test.false w bad) (λ r.
-    let (q, x, o, g, f, r1, r2, l, t, n, s, y, b, i, w, bad, tail) = r in
-    let p : tie.Then1 = record { before = record { before = record { before = record { before = record { before = record { before = record { before = record { before = record { before = record { before = record { before = record { before = record { before = record { before = c; queue-test = q }; slice-known2 = x }; of-slot = o }; has-goal = g }; fair = f }; row-start = r1 }; row-start2 = r2 }; loop = l }; loop-test = t }; target = n }; step = s }; slot = y }; is-bad = b }; if1 = i } in
-    at-bad p _ _ w bad) c.queue-test.branch in
+    let left : Left live_flag bytes-at c.args.slots c.args.work.now c.queue-test.work c.queue-test.bad head_of = elim c.queue-test.branch [
+      else-queue-test w ↦ left_ended c.requires.slots_are c.queue.invariant w.queue-test.false w.work-is w.bad-is
+      | then-queue-test+then-loop-i-test+then-is_bad w ↦
+            let turned-at : Turned live_flag bytes-at w.loop-i.work head_of w.loop-i.tail x-at w.loop-i.i = w.loop-i.invariant.turned in
+            let r-is : w.of_slot-r.result ≡ at (block_of bytes-at) x-at = let l = asks.laid in
+            w.of_slot-r.ensures ∙ ap₂ (λ (n m : ℕ). record_of_slot n m x-at) l.states_are l.sets_are in
+            let to_is : w.row_start-to.result ≡ to_of bytes-at x-at = w.row_start-to.ensures
+            ∙ ap (row_start bytes-at) (add-one w.of_slot-r.result.s)
+            ∙ ap (λ (r : Record). row_start bytes-at (suc r.s)) r-is in
+            let below-to : w.loop-i.i < to_of bytes-at x-at = omega (arith, w.loop-i-test.true, to_is) in
+            let target_at = target bytes-at w.loop-i.i in
+            let next-at : Bool → ℕ = λ wish. next_of live_flag bytes-at x-at target_at wish in
+            let step-at : Bool → Record = λ wish. step_of live_flag (block_of bytes-at) (at (block_of bytes-at) x-at) target_at wish in
+            let leaves : Leaves (block_of bytes-at) w.of_slot-r.result table_at.states
+            w.has_goal-goal.result w.fair-fair.result = record {
+            states = block_states bytes-at ∙ sym asks.laid.states_are;
+            goal_is = sym w.has_goal-goal.ensures;
+            fair_is = sym w.fair-fair.ensures;
+            } in
+            let step_is : (wish : Bool) (next : ℕ) (r : Record) → next ≡ target_at
+            → StepSays w.of_slot-r.result table_at.states w.has_goal-goal.result w.fair-fair.result next wish r
+            → r ≡ step-at wish = λ wish next r e says. says _ leaves ∙ ap₂ (λ (q : Record) (s : ℕ). step_of live_flag (block_of bytes-at) q s wish) r-is e in
+            let saving-is : w.step-saving.result ≡ step-at true = step_is true _ _ w.target-next.ensures w.step-saving.ensures in
+            let y-is : w.slot-y.result ≡ next-at true = step_slot live_flag _ _ asks.laid _ _ true _ saving-is _ w.slot-y.ensures in
+            let edge_at : (block_of bytes-at).edge (state_of bytes-at x-at) target_at ≡ true = edge_there live_flag _ asks.formed _ _ _ _ _ turned-at below-to in
+            let bad-is : w.is_bad.result ≡ bad_of (block_of bytes-at) (at (block_of bytes-at) (next-at true)) = let B = block_of bytes-at in
+            w.is_bad.ensures B (block_sets bytes-at ∙ sym asks.laid.sets_are)
+            ∙ ap (bad_of B) (saving-is ∙ sym (at_next live_flag B (sound bytes-at asks.formed) x-at target_at true edge_at)) in
+            left_stopped asks.slots_are (first_asks live_flag _ asks.formed _ _ _ _ _ turned-at below-to).slot_in
+            (rest_trans c.queue.invariant.same w.loop-i.invariant.same)
+            (turned_stops live_flag _ asks.formed _ _ _ _ _ turned-at below-to (sym bad-is ∙ w.if-is_bad.true))
+            w.work-is (w.bad-is ∙ y-is)
+    ] in
     elim left [ ended e s k ↦ record { same = s; seen = k } | stopped l s k ↦ absurd (omega (arith, c.if-bad-slots.false)) ]
-
