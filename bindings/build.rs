@@ -1,4 +1,4 @@
-// Links the static library that `rt staticlib lasso` writes.
+// Links the static library that `scripts/build library` writes.
 use std::path::Path;
 
 fn main() {
@@ -9,7 +9,7 @@ fn main() {
     let archive = folder.join("liblasso.a");
     println!("cargo:rerun-if-changed={}", archive.display());
     if !archive.exists() {
-        panic!("target/staticlib/liblasso.a is not there: run `rt staticlib lasso` first");
+        panic!("target/staticlib/liblasso.a is not there: run `scripts/build library` first");
     }
     println!("cargo:rustc-link-search=native={}", folder.display());
     println!("cargo:rustc-link-lib=static=lasso");

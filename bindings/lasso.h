@@ -1,7 +1,7 @@
 /* lasso.h: can this block wait for ever?
  *
- * Five jobs over one table in memory: open, quote, search, translate, step. Build the library with `rt staticlib lasso` and link
- * target/staticlib/liblasso.a. It is code for 64-bit x86 Linux; it calls nothing but memset, allocates nothing,
+ * Five jobs over one table in memory: open, quote, search, translate, step. Build the library with `scripts/build library` and link
+ * target/staticlib/liblasso.a. It is code for 64-bit x86 Linux (level x86-64-v2); it calls nothing but memset, allocates nothing,
  * keeps nothing between calls and prints nothing.
  *
  * The caller owns every buffer. A pointer may be null only where its length is 0. The table is never changed. Buffers must not overlap. No function
