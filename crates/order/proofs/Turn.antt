@@ -4,7 +4,7 @@ use Rattle.std.proofs.Common.{ap, inl, inr, eq-or-lt_of_le, le_of_suc-le-suc, ar
 use Rattle.std.proofs.Math.Decide.{dec_lt}
 use Rattle.order.specs.Graph.{Graph, Safe, LeastBad}
 use Rattle.order.proofs.Graph.{Determined}
-use Rattle.order.specs.Log.{Queue, Queued, Before, by_origin, by_label, Log, path}
+use Rattle.order.specs.Log.{Queue, Queued, Before, by_origin, by_label, path}
 use Rattle.order.proofs.Loop.{Agree, push, advance, queued}
 use Rattle.order.proofs.Search.{none, found}
 use Rattle.order.specs.Word.{◌▸◌}

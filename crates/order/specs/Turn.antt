@@ -1,11 +1,8 @@
 -- One turn of a breadth-first search: the index `head` is next, and its edges are followed in the order of their labels. `Turning` says where a
 -- turn stands: what leads from head with a label below L is dealt with. One law for each way a turn goes on or ends. Assumes nothing.
-use Rattle.std.specs.Prelude.{◌≡◌, refl, ◌⊎◌, ℕ, suc, ◌≤◌, ◌<◌}
-use Rattle.std.proofs.Common.{ap, inl, inr, eq-or-lt_of_le, le_of_suc-le-suc, arith}
-use Rattle.std.proofs.Math.Decide.{dec_lt}
-use Rattle.order.specs.Graph.{Graph, Safe, LeastBad}
-use Rattle.order.specs.Log.{Queue, Queued, Before, by_origin, by_label, Log, path}
-use Rattle.order.specs.Word.{◌▸◌}
+use Rattle.std.specs.Prelude.{◌≡◌, ℕ, suc, ◌≤◌, ◌<◌}
+use Rattle.order.specs.Graph.{Graph}
+use Rattle.order.specs.Log.{Queue, Queued, Before, Log}
 
 -- Between two turns: the log, and no origin is past head.
 pub record Between (G : Graph) (q : Queue) (head tail : ℕ) : Type 0 where

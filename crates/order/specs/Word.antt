@@ -1,9 +1,7 @@
 -- Words, and the shortlex order on them: the shorter word first, and of two words of one length the one that a dictionary has first.
 -- docs/RULES.md, "Lasso and choice": "the smallest k", then "least in dictionary order".
 -- Assumes nothing.
-use Rattle.std.specs.Prelude.{◌≡◌, refl, ◌⊎◌, List, [], ◌∷◌, ◌++◌, ℕ, suc, ◌≤◌, ◌<◌, length}
-use Rattle.std.proofs.Common.{sym, ap, ◌∙◌, inl, inr, arith, length-append}
-use Rattle.std.proofs.Math.Decide.{dec_lt}
+use Rattle.std.specs.Prelude.{◌≡◌, List, [], ◌∷◌, ◌++◌, ℕ, ◌<◌, length}
 
 -- a word: letters are numbers, in the order in which they are read
 abbrev pub Word : Type 0
@@ -11,7 +9,6 @@ Word = List ℕ
 
 infixl 66 ◌▸◌
 infix 50 ◌≺◌ ◌⊏◌ ◌⊑◌
-
 -- w with one more letter at its end
 unfoldable pub ◌▸◌ : Word → ℕ → Word
 w ▸ a = w ++ (a ∷ [])

@@ -1,3 +1,2 @@
 // No code: the theory of searches stands in specs.
 #![tactic(auto)]
-

@@ -1,14 +1,9 @@
 -- Laws of specs/Quote.antt. Assumes nothing.
 use Rattle.std.specs.Prelude.{◌≡◌, refl, List, [], ◌∷◌, ℕ, get_or}
 use Rattle.order.proofs.Settled.{settled}
-use Rattle.recorder.specs.Slots.{slot_count}
 use Rattle.table.specs.Open.{open_of}
-use Rattle.table.specs.BlockOf.{block_of}
 use Rattle.table.specs.declared.Opened.{Opened}
 use Rattle.table.specs.declared.Opened.TheVariants.{Accepted, Refused}
-use Rattle.quote.specs.Sizes.{edge_count, translated_length}
-use Rattle.quote.specs.Boards.{board_of}
-use Rattle.quote.specs.Members.{members_of}
 use Rattle.quote.specs.declared.Sheet.{Sheet}
 use Rattle.quote.specs.declared.Quoted.{Quoted}
 use Rattle.quote.specs.Quote.{sheet_of, sheet_for, quote_of}

@@ -1,7 +1,6 @@
 -- Laws of specs/Sizes.antt. Assumes nothing.
 use Rattle.std.specs.Prelude.{◌≡◌, refl, cond, ℕ, zero, suc, ◌+◌, ◌*◌, ◌^◌, ◌≤◌, eqb}
 use Rattle.std.proofs.Common.{mul-le-mul, arith, pow_mono, eq-eqb, ne_eqb}
-use Rattle.table.specs.Layout.{length_of}
 use Rattle.quote.specs.Sizes.{edge_count}
 
 -- ---- where E comes from

@@ -1,9 +1,7 @@
 -- The members of a fairness set. docs/RULES.md, "Quote sheet": the number of members of each of the four sets, 0 for a set not below m.
 -- First the definition, then the law that says the second half. Assumes nothing.
-use Rattle.std.specs.Prelude.{◌≡◌, refl, Bool, false, cond, ℕ, zero, suc, ◌+◌, ◌/◌, ◌%◌, ◌^◌, ◌≤◌, ◌<◌, eqb}
-use Rattle.std.proofs.Math.Nat.{div-eq_of_lt}
-use Rattle.std.proofs.Common.{lt_of_lt_of_le, arith, pow_mono, ne_eqb}
-use Rattle.recorder.specs.Block.{Block, Sound}
+use Rattle.std.specs.Prelude.{Bool, cond, ℕ, zero, suc, ◌+◌, ◌/◌, ◌%◌, ◌^◌, eqb}
+use Rattle.recorder.specs.Block.{Block}
 
 -- how many of the numbers below k pass the test P
 unfoldable pub count_below : ℕ → (ℕ → Bool) → ℕ

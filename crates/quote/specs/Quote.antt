@@ -1,6 +1,5 @@
 -- What quoting a table answers. docs/RULES.md, "Quote sheet". Definitions, then laws. Assumes nothing.
-use Rattle.std.specs.Prelude.{◌≡◌, refl, List, [], ◌∷◌, ℕ, get_or}
-use Rattle.order.proofs.Settled.{settled}
+use Rattle.std.specs.Prelude.{List, [], ◌∷◌, ℕ}
 use Rattle.recorder.specs.Slots.{slot_count}
 use Rattle.table.specs.Open.{open_of}
 use Rattle.table.specs.BlockOf.{block_of}

@@ -1,7 +1,6 @@
 -- The sizes of the recorded table. docs/RULES.md, "Translated table": S = n(n+1)·2^(m+1) slots, E = e(n+2)·2^(m+1) edges, 32 + 5S + 4E bytes.
 -- First the definitions (S is the recorder's `slot_count`), then the law that says where n + 2 comes from. Assumes nothing.
-use Rattle.std.specs.Prelude.{◌≡◌, refl, cond, ℕ, zero, suc, ◌+◌, ◌*◌, ◌^◌, ◌≤◌, eqb}
-use Rattle.std.proofs.Common.{mul-le-mul, arith, pow_mono, eq-eqb, ne_eqb}
+use Rattle.std.specs.Prelude.{ℕ, ◌+◌, ◌*◌, ◌^◌}
 use Rattle.table.specs.Layout.{length_of}
 
 -- E, for n states, e edges and m sets

@@ -1,16 +1,9 @@
 -- Laws of specs/Demand3.antt. Assumes nothing.
-use Rattle.std.specs.Prelude.{◌≡◌, true, false, cond, ◌↔◌, List, ℕ, suc, ◌+◌, ◌*◌, ◌<◌, leb, length, get_or}
 use Rattle.recorder.specs.Block.{Block, Sound}
-use Rattle.recorder.specs.Lasso.{Lasso, Run, state}
 use Rattle.recorder.specs.Flag.{Flag, live_flag, LassoBy}
-use Rattle.recorder.specs.Recorder.{RecordRun, Choice, place, Fits, record_at, record_of, bad_of}
-use Rattle.recorder.specs.Looped.{Looped}
-use Rattle.recorder.specs.Matching.{Matching}
 use Rattle.recorder.proofs.Matching.{matching}
 use Rattle.recorder.proofs.Bad.{ends_bad, one_not_bad, bad_is_lasso}
-use Rattle.recorder.specs.Words.{word}
 use Rattle.recorder.proofs.Words.{same_word, word_at}
-use Rattle.recorder.specs.declared.Record.{Record}
 use Rattle.recorder.specs.Demand3.{Demand3By, Demand3}
 
 -- it holds of every flag and its lassos

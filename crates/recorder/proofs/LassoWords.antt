@@ -16,7 +16,7 @@ use Rattle.recorder.specs.Looped.{Looped}
 use Rattle.recorder.proofs.Bad.{ends_bad, one_not_bad}
 use Rattle.recorder.specs.Words.{word}
 use Rattle.recorder.proofs.Words.{word_at}
-use Rattle.recorder.specs.SlotGraph.{slot_graph, at, slot}
+use Rattle.recorder.specs.SlotGraph.{slot_graph, slot}
 use Rattle.recorder.proofs.SlotRuns.{last_of, Traced, traced, spells, at_last}
 use Rattle.recorder.specs.declared.Record.{Record}
 

@@ -2,8 +2,6 @@
 use Rattle.std.specs.Prelude.{◌≡◌, refl, Bool, false, ℕ}
 use Rattle.std.proofs.Common.{sym, ◌∙◌}
 use Rattle.recorder.specs.Block.{Block}
-use Rattle.recorder.specs.Flag.{live_flag}
-use Rattle.recorder.specs.Recorder.{start_of, step_of, bad_of}
 use Rattle.recorder.specs.declared.Record.{Record}
 use Rattle.recorder.specs.Says.{Leaves, StartSays, StepSays, BadSays}
 

@@ -3,12 +3,11 @@ use Rattle.std.specs.Prelude.{◌≡◌, refl, Bool, true, false, cond, ◌&&◌
 use Rattle.std.proofs.Common.{sym, ap, ap₂, ◌∙◌, true≢false, arith, pow_pos}
 use Rattle.std.proofs.lemmas.Nat.{or_lt}
 use Rattle.std.specs.Int.Bits.{bit_or}
-use Rattle.order.specs.Graph.{Graph}
 use Rattle.order.proofs.Graph.{Determined, determined}
 use Rattle.recorder.specs.Block.{Block, Sound}
 use Rattle.recorder.specs.Flag.{Flag}
-use Rattle.recorder.specs.Recorder.{start_of, step_of, save_of, moved, unsaved, bad_of, number}
-use Rattle.recorder.specs.Slots.{slot_of, record_of_slot, InRange}
+use Rattle.recorder.specs.Recorder.{start_of, step_of, save_of, moved, unsaved, number}
+use Rattle.recorder.specs.Slots.{InRange}
 use Rattle.recorder.proofs.Slots.{record_of_slot_lem, saved_in, bits_in}
 use Rattle.recorder.proofs.Ties.{parts}
 use Rattle.recorder.proofs.Matching.{state_saved}

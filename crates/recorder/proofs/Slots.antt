@@ -1,5 +1,5 @@
 -- Laws of specs/Slots.antt. Assumes nothing.
-use Rattle.std.specs.Prelude.{◌≡◌, refl, Bool, true, false, cond, ◌↔◌, eqb}
+use Rattle.std.specs.Prelude.{◌≡◌, refl, Bool, true, false, ◌↔◌, eqb}
 use Rattle.std.proofs.Common.{sym, ap, ◌∙◌, mul_assoc, div-lt_iff_lt-mul, add-one, pow_pos}
 use Prim.Native.Nat.{ℕ, zero, suc, ◌+◌, ◌*◌, ◌/◌, ◌%◌, ◌^◌, ◌≤◌, ◌<◌}
 use Rattle.std.proofs.Math.Nat.{mod-lt, div-add-mod'}

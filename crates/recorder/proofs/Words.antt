@@ -5,7 +5,7 @@ use Rattle.recorder.specs.Block.{Block, Sound}
 use Rattle.recorder.specs.Lasso.{Run, state}
 use Rattle.recorder.specs.Flag.{Flag}
 use Rattle.recorder.proofs.Ties.{parts}
-use Rattle.recorder.specs.Recorder.{RecordRun, zeros, Choice, place, Fits, earlier, record_at, record_of, strike, first_saved, choice_of, unsaved, number}
+use Rattle.recorder.specs.Recorder.{RecordRun, zeros, Choice, place, Fits, earlier, record_at, strike, first_saved, choice_of, unsaved, number}
 use Rattle.recorder.proofs.Matching.{run_within, state_saved, record_at_strike, length-record_at}
 use Rattle.recorder.specs.Places.{placed}
 use Rattle.recorder.proofs.Places.{record_at_lem, saved_before, saved_after, unsaved_n}

@@ -2,9 +2,9 @@
 -- the numbers of docs/RULES.md, "Lasso and choice", and determine the run. Over any flag, then read for the flag of "The recorder". The bytes
 -- of a translated table come later. Assumes nothing.
 use Rattle.std.specs.Prelude.{◌≡◌, true, false, cond, ◌↔◌, List, ℕ, suc, ◌+◌, ◌*◌, ◌<◌, leb, length, get_or}
-use Rattle.recorder.specs.Block.{Block, Sound}
+use Rattle.recorder.specs.Block.{Block}
 use Rattle.recorder.specs.Lasso.{Lasso, Run, state}
-use Rattle.recorder.specs.Flag.{Flag, live_flag, LassoBy}
+use Rattle.recorder.specs.Flag.{Flag, live_flag}
 use Rattle.recorder.specs.Recorder.{RecordRun, Choice, place, Fits, record_at, record_of, bad_of}
 use Rattle.recorder.specs.Looped.{Looped}
 use Rattle.recorder.specs.Matching.{Matching}

@@ -1,15 +1,12 @@
 -- The second demand, of the rules themselves: the least bad word of the slot graph is the list of numbers of the least lasso; there
 -- is at most one least lasso; and no run ends bad exactly if there is no lasso of any length. Over any flag, then read for the flag of
 -- docs/RULES.md, "The recorder". Assumes nothing.
-use Rattle.std.specs.Prelude.{◌≡◌, ◌↔◌, ◌⊎◌, List, ℕ, ◌<◌, length}
-use Rattle.std.proofs.Common.{sym, ◌∙◌, inl, inr, arith}
-use Rattle.std.proofs.Math.Decide.{dec_lt}
-use Rattle.order.specs.Word.{Word, ◌≺◌, shorter, sooner, ◌⊑◌, less, same}
-use Rattle.order.proofs.Word.{⊏_irrefl, ⊏-⊑_trans, ≺_compare, ⊑_antisym, ⊑_length}
+use Rattle.std.specs.Prelude.{◌≡◌, ◌↔◌, List, ℕ}
+use Rattle.order.specs.Word.{Word}
 use Rattle.order.specs.Graph.{Safe, LeastBad}
-use Rattle.recorder.specs.Block.{Block, Sound}
-use Rattle.recorder.specs.Lasso.{Lasso, tie_of, Least, None, LeastLasso}
-use Rattle.recorder.specs.Flag.{Flag, live_flag, LassoBy}
+use Rattle.recorder.specs.Block.{Block}
+use Rattle.recorder.specs.Lasso.{Lasso, tie_of, Least, None}
+use Rattle.recorder.specs.Flag.{Flag, live_flag}
 use Rattle.recorder.specs.SlotGraph.{slot_graph}
 
 -- what is said of the flag F and the lassos that L says

@@ -1,13 +1,10 @@
 -- The runs of records match one to one the original's runs with a choice of where to record.
 -- Assumes nothing.
-use Rattle.std.specs.Prelude.{◌≡◌, refl, Bool, true, false, cond, List, [], ◌∷◌, map, ℕ, zero, suc, ◌<◌, length}
-use Rattle.std.proofs.Common.{sym, ap, ◌∙◌, subst, suc-le-suc, le_of_suc-le-suc, arith, eq-eqb, ne_eqb}
-use Rattle.std.proofs.lemmas.List.{length-map}
-use Rattle.std.proofs.Math.ListN.{get_or-map}
-use Rattle.recorder.specs.Block.{Block, Sound}
-use Rattle.recorder.specs.Lasso.{Run, state}
+use Rattle.std.specs.Prelude.{◌≡◌, List, map, ℕ, length}
+use Rattle.recorder.specs.Block.{Block}
+use Rattle.recorder.specs.Lasso.{Run}
 use Rattle.recorder.specs.Flag.{Flag}
-use Rattle.recorder.specs.Recorder.{RecordRun, StepTo, Choice, none, place, Fits, wished, later, earlier, after, record_at, record_of, strike, first_saved, choice_of, start_of, step_of, save_of, unsaved, goal_of}
+use Rattle.recorder.specs.Recorder.{RecordRun, Choice, Fits, record_at, strike, choice_of, goal_of}
 use Rattle.recorder.specs.declared.Record.{Record}
 
 -- ---- the match

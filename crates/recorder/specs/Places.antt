@@ -1,15 +1,10 @@
 -- The record at place i of a run that records at the place l, written out, and what its flag and its bits say.
 -- Assumes nothing.
-use Rattle.std.specs.Prelude.{◌≡◌, refl, Bool, true, false, cond, ◌⊎◌, List, ℕ, zero, suc, ◌^◌, ◌<◌, ◌≤◌, leb, length}
-use Rattle.std.proofs.Common.{ap, ◌∙◌, inl, inr, le_of_suc-le-suc, eq-or-lt_of_le, arith, pow_pos, leb-true, leb-false, le-leb, eq-eqb}
-use Rattle.std.proofs.Math.Nat.{div-eq_of_lt}
+use Rattle.std.specs.Prelude.{cond, List, ℕ, zero, suc, leb}
 use Rattle.std.specs.Int.Bits.{bit_or}
-use Rattle.std.proofs.lemmas.Nat.{or_lt}
-use Rattle.std.proofs.lemmas.Bool.{lt-leb}
-use Rattle.recorder.specs.Block.{Block, Sound, HasBit}
+use Rattle.recorder.specs.Block.{Block}
 use Rattle.recorder.specs.Lasso.{state}
 use Rattle.recorder.specs.Flag.{Flag, flag_at}
-use Rattle.recorder.specs.Recorder.{none, place, record_at, record_of, step_of, moved, save_of, unsaved}
 use Rattle.recorder.specs.declared.Record.{Record}
 
 module _ (B : Block) (ss : List ℕ) (l : ℕ) where

@@ -1,16 +1,12 @@
 -- The graph that the search walks: its nodes are slot numbers, its edges the steps of their records, and a node's label the
 -- record's number in a tie. docs/RULES.md, "The recorder". The word of a run says where the run ends, since the labels tell apart
 -- what one slot leads to. Assumes nothing.
-use Rattle.std.specs.Prelude.{◌≡◌, refl, Bool, true, false, cond, ◌&&◌, ℕ, ◌≤◌, ◌<◌, ◌^◌}
-use Rattle.std.proofs.Common.{sym, ap, ap₂, ◌∙◌, true≢false, arith, pow_pos}
-use Rattle.std.proofs.lemmas.Nat.{or_lt}
-use Rattle.std.specs.Int.Bits.{bit_or}
+use Rattle.std.specs.Prelude.{◌≡◌, Bool, true, ℕ}
 use Rattle.order.specs.Graph.{Graph}
-use Rattle.order.proofs.Graph.{Determined, determined}
-use Rattle.recorder.specs.Block.{Block, Sound}
+use Rattle.recorder.specs.Block.{Block}
 use Rattle.recorder.specs.Flag.{Flag}
-use Rattle.recorder.specs.Recorder.{start_of, step_of, save_of, moved, unsaved, bad_of, number}
-use Rattle.recorder.specs.Slots.{slot_of, record_of_slot, InRange}
+use Rattle.recorder.specs.Recorder.{start_of, step_of, bad_of, number}
+use Rattle.recorder.specs.Slots.{slot_of, record_of_slot}
 use Rattle.recorder.specs.declared.Record.{Record}
 
 module _ (B : Block) where

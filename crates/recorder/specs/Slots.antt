@@ -1,12 +1,8 @@
 -- Slot numbers. docs/RULES.md, "The recorder": the slot number of a record is ((s(n+1) + t)·2 + live)·2^m + v, and there are
 -- S = n(n+1)·2^(m+1) of them. First the definitions, then the laws: both round trips and the range, over any n and m.
 -- Assumes nothing.
-use Rattle.std.specs.Prelude.{◌≡◌, refl, Bool, true, false, cond, ◌↔◌, eqb}
-use Rattle.std.proofs.Common.{sym, ap, ◌∙◌, mul_assoc, div-lt_iff_lt-mul, add-one, pow_pos}
-use Prim.Native.Nat.{ℕ, zero, suc, ◌+◌, ◌*◌, ◌/◌, ◌%◌, ◌^◌, ◌≤◌, ◌<◌}
-use Rattle.std.proofs.Math.Nat.{mod-lt, div-add-mod'}
-use native.Mathlib.Omega.{arith}
-use Rattle.std.proofs.Math.Arith.{digits_lt, digits_div, digits_mod}
+use Rattle.std.specs.Prelude.{Bool, cond, eqb}
+use Prim.Native.Nat.{ℕ, ◌+◌, ◌*◌, ◌/◌, ◌%◌, ◌^◌, ◌≤◌, ◌<◌}
 use Rattle.recorder.specs.declared.Record.{Record}
 
 -- a flag as a number

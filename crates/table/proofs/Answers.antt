@@ -5,7 +5,6 @@ use Rattle.std.proofs.Math.Option.{Option, none, some}
 use Rattle.table.specs.First.{first_in}
 use Rattle.table.proofs.First.{first_some, first_none}
 use Rattle.table.proofs.Scan.{Scanned, scan_on, scan_first, scan_none}
-use Rattle.table.specs.declared.Found.{Found}
 use Rattle.table.specs.declared.Found.TheVariants.{At, Nothing}
 use Rattle.table.specs.Answers.{found_of}
 

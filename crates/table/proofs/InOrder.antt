@@ -1,11 +1,10 @@
 -- Laws of specs/InOrder.antt. Assumes nothing.
-use Rattle.std.specs.Prelude.{◌≡◌, refl, Bool, true, false, not, ◌⊎◌, List, [], ◌∷◌, ◌++◌, ℕ, suc, ◌+◌, ◌≤◌, ◌<◌, eqb, ltb, length}
+use Rattle.std.specs.Prelude.{◌≡◌, refl, Bool, true, false, not, List, [], ◌∷◌, ◌++◌, ℕ, ◌+◌, ◌≤◌, ◌<◌, eqb, ltb, length}
 use Rattle.std.proofs.Common.{sym, inl, inr, arith}
 use Rattle.std.proofs.Math.Option.{Option, none, some, some-ne-none}
 use Rattle.table.specs.First.{first_in}
 use Rattle.table.specs.Given.{given, given_at, first_given}
 use Rattle.table.specs.Layout.{kind_of, states_of, edges_of, sets_of}
-use Rattle.table.specs.Refusals.{number_of}
 use Rattle.table.specs.Open.{outside, layout_fits, row_start_wrong, target_wrong, row_empty, mark_wrong, count_lines, row_lines, content_lines, refusal_for, answer_of, lines_of, opened_by, open_of}
 use Rattle.table.specs.declared.refusal.Refusal.{Refusal}
 use Rattle.table.specs.declared.refusal.Refusal.TheVariants.{TooShort, WrongKind, WrongStates, WrongEdges, WrongSets, WrongLayout, WrongRowStart, WrongTarget, EmptyRow, WrongMark, ShortWorkspace, ShortReport, ShortOutput, WrongRecord, NoEdge}

@@ -1,7 +1,6 @@
 -- Laws of specs/Inside.antt. Assumes nothing.
-use Rattle.std.specs.Prelude.{◌≡◌, List, ℕ, ◌+◌, ◌*◌, ◌≤◌, ◌<◌, length}
+use Rattle.std.specs.Prelude.{List, ℕ, ◌≤◌, ◌<◌}
 use Rattle.std.proofs.Common.{arith}
-use Rattle.table.specs.Layout.{states_of, edges_of, rows_at, targets_at, marks_at}
 use Rattle.table.specs.LaidOut.{LaidOut}
 use Rattle.table.specs.declared.Table.{Table}
 use Rattle.table.specs.Inside.{RowInside, TargetInside, MarkInside}

@@ -1,5 +1,5 @@
 -- Laws of specs/WellFormed.antt. Assumes nothing.
-use Rattle.std.specs.Prelude.{◌≡◌, refl, ◌↔◌, List, ℕ, suc, ◌+◌, ◌≤◌, ◌<◌, length}
+use Rattle.std.specs.Prelude.{◌≡◌, refl, ◌↔◌, List, ℕ, suc, ◌+◌, ◌≤◌, ◌<◌}
 use Rattle.std.proofs.Common.{sym, ap, ◌∙◌, zero-le}
 use Rattle.std.proofs.Math.Option.{none}
 use Rattle.order.proofs.Settled.{settled}
@@ -8,13 +8,12 @@ use Rattle.table.specs.First.{first_in}
 use Rattle.table.proofs.First.{first_none}
 use Rattle.table.specs.Given.{first_given}
 use Rattle.table.proofs.Given.{none_given, test_off, index_off}
-use Rattle.table.specs.Layout.{kind_of, states_of, edges_of, sets_of, rows_offset, targets_offset, marks_offset, rows_at, targets_at, marks_at, length_of, table_of, row_start, target, mark}
+use Rattle.table.specs.Layout.{states_of, sets_of, table_of, row_start, mark}
 use Rattle.table.specs.Open.{row_empty, mark_wrong, count_lines, row_lines, content_lines, lines_of, open_of, why_of}
 use Rattle.table.proofs.Bits.{low_bits}
 use Rattle.table.proofs.Facts.{facts}
 use Rattle.table.specs.LaidOut.{LaidOut}
 use Rattle.table.proofs.LaidOut.{laid_by, inside, layout_right}
-use Rattle.table.specs.Rows.{RowsRight}
 use Rattle.table.proofs.Rows.{row_starts_right}
 use Rattle.table.proofs.Targets.{targets_right}
 use Rattle.table.proofs.Stages.{stage_accepts, accepts_says}

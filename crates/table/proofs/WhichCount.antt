@@ -3,7 +3,7 @@ use Rattle.std.specs.Prelude.{◌≡◌, Bool, true, false, not, ◌↔◌, ℕ,
 use Rattle.std.proofs.Math.Path.{refl, sym, ap}
 use Rattle.std.proofs.Common.{◌∙◌, true≢false, inl, inr, zero-le, arith}
 use Rattle.std.proofs.lemmas.Bool.{false≢true}
-use mathlib.Core.List.{List, [], ◌∷◌, ◌++◌}
+use mathlib.Core.List.{List, [], ◌∷◌}
 use Rattle.std.proofs.Math.Option.{Option, none, some, some-ne-none}
 use Rattle.table.specs.Given.{given, first_given}
 use Rattle.table.specs.Layout.{kind_of, states_of, edges_of, sets_of}

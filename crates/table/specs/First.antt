@@ -1,10 +1,7 @@
 -- The first index at which a test passes. docs/RULES.md, "Refusal list" ("first such index", "first such state") and "Quote sheet"
 -- ("the first row below"). First the definition, then its laws. Assumes nothing.
-use Rattle.std.specs.Prelude.{◌≡◌, refl, Bool, true, false, ◌↔◌, ◌⊎◌, ℕ, zero, suc, ◌+◌, ◌-◌, ◌≤◌, ◌<◌}
-use Rattle.std.proofs.Common.{sym, ap, ◌∙◌, true≢false, inl, inr, eq-or-lt_of_le, arith}
-use Rattle.std.proofs.lemmas.Bool.{false≢true}
-use Rattle.std.proofs.Math.Option.{Option, none, some, some-ne-none}
-use Rattle.std.proofs.Math.Decide.{dec_lt}
+use Rattle.std.specs.Prelude.{Bool, true, false, ℕ, zero, suc, ◌-◌}
+use Rattle.std.proofs.Math.Option.{Option, none, some}
 
 -- the first of the k indices from i on at which the test P passes
 unfoldable pub first_from : ℕ → (ℕ → Bool) → ℕ → Option ℕ

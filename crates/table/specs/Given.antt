@@ -1,8 +1,7 @@
 -- A list of lines of which the first that is given is the answer: docs/RULES.md, "Refusal list". The definitions and the laws for going down such a
 -- list are over any type of answer. Assumes nothing.
-use Rattle.std.specs.Prelude.{◌≡◌, refl, Bool, true, false, ◌↔◌, List, [], ◌∷◌, ◌++◌, ℕ}
-use Rattle.std.proofs.Common.{sym, true≢false}
-use Rattle.std.proofs.Math.Option.{Option, none, some, some-ne-none}
+use Rattle.std.specs.Prelude.{Bool, true, false, List, [], ◌∷◌, ℕ}
+use Rattle.std.proofs.Math.Option.{Option, none, some}
 
 -- a line: its answer, where the test passes
 abbrev pub given : {A : Type 0} → Bool → A → Option A

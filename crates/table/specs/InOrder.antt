@@ -1,16 +1,12 @@
 -- The refusal list's order, and that every job goes down it. docs/RULES.md, "Refusal list": of the lines that apply, the first in the list is given.
 -- The order is that of positions in the list, not of numbers: 14 and 15 stand straight after 3. First the definitions, then the laws, over any list
 -- of lines. Assumes nothing.
-use Rattle.std.specs.Prelude.{◌≡◌, refl, Bool, true, false, not, ◌⊎◌, List, [], ◌∷◌, ◌++◌, ℕ, suc, ◌+◌, ◌≤◌, ◌<◌, eqb, ltb, length}
-use Rattle.std.proofs.Common.{sym, inl, inr, arith}
-use Rattle.std.proofs.Math.Option.{Option, none, some, some-ne-none}
-use Rattle.table.specs.First.{first_in}
-use Rattle.table.specs.Given.{given, given_at, first_given}
-use Rattle.table.specs.Layout.{kind_of, states_of, edges_of, sets_of}
+use Rattle.std.specs.Prelude.{◌≡◌, true, false, ◌⊎◌, List, [], ◌∷◌, ◌++◌, ℕ, suc, ◌≤◌, eqb}
+use Rattle.std.proofs.Math.Option.{Option, none, some}
+use Rattle.table.specs.Given.{first_given}
 use Rattle.table.specs.Refusals.{number_of}
-use Rattle.table.specs.Open.{outside, layout_fits, row_start_wrong, target_wrong, row_empty, mark_wrong, count_lines, row_lines, content_lines, refusal_for, answer_of, lines_of, opened_by, open_of}
+use Rattle.table.specs.Open.{lines_of}
 use Rattle.table.specs.declared.refusal.Refusal.{Refusal}
-use Rattle.table.specs.declared.refusal.Refusal.TheVariants.{TooShort, WrongKind, WrongStates, WrongEdges, WrongSets, WrongLayout, WrongRowStart, WrongTarget, EmptyRow, WrongMark, ShortWorkspace, ShortReport, ShortOutput, WrongRecord, NoEdge}
 
 -- ---- the definitions
 

@@ -1,9 +1,7 @@
 -- What a reading function asks: that the place that it reads stands inside the bytes, by the counts that it is given. First the three
 -- statements, then the laws by which a caller has them. Assumes nothing.
 use Rattle.std.specs.Prelude.{◌≡◌, List, ℕ, ◌+◌, ◌*◌, ◌≤◌, ◌<◌, length}
-use Rattle.std.proofs.Common.{arith}
 use Rattle.table.specs.Layout.{states_of, edges_of, rows_at, targets_at, marks_at}
-use Rattle.table.specs.LaidOut.{LaidOut}
 use Rattle.table.specs.declared.Table.{Table}
 
 -- row start s

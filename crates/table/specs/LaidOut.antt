@@ -1,9 +1,7 @@
 -- What the lines of the refusal list from the first down to 4 leave: the counts are the header's and inside their ranges, and the length is theirs. The scans of
 -- lines 5 to 8 need this to read inside the bytes. Assumes nothing.
-use Rattle.std.specs.Prelude.{◌≡◌, true, false, ◌↔◌, List, ℕ, ◌≤◌, length}
-use Rattle.std.proofs.Common.{ap, arith}
-use Rattle.table.specs.Layout.{states_of, edges_of, sets_of, rows_offset, targets_offset, marks_offset, rows_at, targets_at, marks_at, length_of, table_of}
-use Rattle.table.specs.Open.{outside, layout_fits}
+use Rattle.std.specs.Prelude.{◌≡◌, List, ℕ, ◌≤◌, length}
+use Rattle.table.specs.Layout.{states_of, edges_of, sets_of, length_of}
 use Rattle.table.specs.declared.Table.{Table}
 
 -- x is from low to high

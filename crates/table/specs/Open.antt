@@ -1,6 +1,6 @@
 -- Which tables are accepted, and which refusal every other gets. docs/RULES.md, "The table file" and the table's own lines of "Refusal
 -- list". A line is named by its number. Definitions only. Assumes nothing.
-use Rattle.std.specs.Prelude.{Bool, true, false, not, ◌&&◌, ◌||◌, List, [], ◌∷◌, ◌++◌, ℕ, suc, ◌+◌, ◌-◌, ◌^◌, eqb, leb, ltb, length}
+use Rattle.std.specs.Prelude.{Bool, not, ◌&&◌, ◌||◌, List, [], ◌∷◌, ◌++◌, ℕ, suc, ◌+◌, ◌-◌, ◌^◌, eqb, leb, ltb, length}
 use Rattle.std.proofs.Math.Option.{Option, none, some}
 use Rattle.table.specs.First.{first_in, is_some}
 use Rattle.table.specs.Given.{given, given_at, first_given}

@@ -1,21 +1,13 @@
 -- The recorded table of an accepted one: its slots, the slot graph, and what a slot leads to. docs/RULES.md, "The recorder". First the definitions,
 -- then the laws that what a step gives is in range and has the slot that the rules say. Over any flag. Assumes nothing.
-use Rattle.std.specs.Prelude.{◌≡◌, refl, Bool, true, List, ℕ, suc, ◌≤◌, ◌<◌}
-use Rattle.std.proofs.Common.{◌∙◌, arith, pow_pos}
+use Rattle.std.specs.Prelude.{Bool, List, ℕ, suc}
 use Rattle.order.specs.Graph.{Graph}
 use Rattle.recorder.specs.Flag.{Flag}
-use Rattle.recorder.specs.Recorder.{start_of, step_of}
-use Rattle.recorder.specs.Slots.{slot_count, slot_of, InRange}
-use Rattle.recorder.proofs.Slots.{saved_in, bits_in, record_in, slot_below}
-use Rattle.recorder.proofs.Fits.{count_small}
+use Rattle.recorder.specs.Recorder.{step_of}
+use Rattle.recorder.specs.Slots.{slot_count}
 use Rattle.recorder.specs.SlotGraph.{slot_graph, at, slot}
-use Rattle.recorder.proofs.SlotGraph.{step_in_range}
-use Rattle.recorder.specs.declared.Record.{Record}
 use Rattle.table.specs.Layout.{states_of, sets_of, row_start}
 use Rattle.table.specs.BlockOf.{block_of}
-use Rattle.table.specs.WellFormed.{WellFormed}
-use Rattle.table.specs.LaidOut.{LaidOut}
-use Rattle.table.specs.declared.Table.{Table}
 
 -- how many slots a table has
 abbrev pub slots_of : List ℕ → ℕ

@@ -1,20 +1,9 @@
 -- Opening accepts exactly the tables that docs/RULES.md, "The table file", describes. First the description, as a record, then what
 -- each line of the refusal list says where it is not given, then the theorem. Assumes nothing.
-use Rattle.std.specs.Prelude.{◌≡◌, refl, ◌↔◌, List, ℕ, suc, ◌+◌, ◌≤◌, ◌<◌, length}
-use Rattle.std.proofs.Common.{sym, ap, ◌∙◌, zero-le}
-use Rattle.std.proofs.Math.Option.{none}
-use Rattle.order.proofs.Settled.{settled}
+use Rattle.std.specs.Prelude.{◌≡◌, List, ℕ, suc, ◌+◌, ◌≤◌, ◌<◌, length}
 use Rattle.recorder.specs.Block.{HasBit}
-use Rattle.table.specs.First.{first_in}
-use Rattle.table.specs.Given.{first_given}
-use Rattle.table.specs.Layout.{kind_of, states_of, edges_of, sets_of, rows_offset, targets_offset, marks_offset, rows_at, targets_at, marks_at, length_of, table_of, row_start, target, mark}
-use Rattle.table.specs.Open.{row_empty, mark_wrong, count_lines, row_lines, content_lines, lines_of, open_of, why_of}
-use Rattle.table.specs.LaidOut.{LaidOut}
+use Rattle.table.specs.Layout.{kind_of, states_of, edges_of, sets_of, rows_offset, targets_offset, marks_offset, rows_at, targets_at, marks_at, length_of, row_start, target, mark}
 use Rattle.table.specs.Rows.{RowsRight}
-use Rattle.table.specs.declared.Table.{Table}
-use Rattle.table.specs.declared.refusal.Refusal.{Refusal}
-use Rattle.table.specs.declared.Opened.{Opened}
-use Rattle.table.specs.declared.Opened.TheVariants.{Accepted, Refused}
 
 pub record WellFormed (b : List ℕ) : Type 0 where
   pub header : 28 ≤ length b

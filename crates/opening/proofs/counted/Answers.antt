@@ -1,11 +1,8 @@
 -- the code goes down lines 1, 2, 3, 14 and 15, and the counts that it read are the header's.
 use mathlib.Core.Path.{◌≡◌, sym, ◌∙◌}
 use mathlib.Core.Bool.{true, false}
-use mathlib.Core.List.{List}
-use Prim.Native.Nat.{ℕ}
 use lib.Dec.{eqb, ltb}
 use lib.ListN.{length}
-use borrow.Author.Rules.{rules}
 use borrow.Author.Tests.{lt-ltb, le-ltb, eq-eqb, ne_eqb}
 use Rattle.table.specs.Layout.{kind_of, states_of, edges_of, sets_of}
 use Rattle.table.specs.Open.{outside}
@@ -64,4 +61,3 @@ returns c =
     let sets-at : c.outside-3.result ≡ outside (sets_of b1) 0 4 = rw (← c.word-4.ensures) c.outside-3.ensures in
     stage_accepts _ _ _ (counts_off _ long kind states edges (sym sets-at ∙ c.if-outside-3.false))
     (table_is _ _ c.word-2.ensures c.word-3.ensures c.word-4.ensures)
-

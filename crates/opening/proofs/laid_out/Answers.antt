@@ -1,12 +1,8 @@
 -- what the lines of the counts refuse stays refused, and after them the code goes down lines 4 and 5.
 use mathlib.Core.Path.{◌≡◌, sym, ap, ◌∙◌}
 use mathlib.Core.Bool.{true}
-use mathlib.Core.List.{List}
 use mathlib.Core.Option.{none}
-use Prim.Native.Nat.{ℕ}
 use native.Mathlib.Omega.{arith}
-use borrow.Author.Rules.{rules}
-use borrow.Author.Tests.{not-true, not-false}
 use Rattle.table.proofs.Answers.{found_at, found_none}
 use Rattle.table.specs.Given.{first_given}
 use Rattle.table.specs.Layout.{table_of}
@@ -67,4 +63,3 @@ returns c =
     let taken : (first_given (count_lines b) ≡ none) × (t ≡ table_of b) = accepts_says b _ t (sym c.counted-answer.ensures ∙ c.in-Accepted.is) in
     let layout : layout_fits b ≡ true = sym c.layout_fits.ensures ∙ c.if-not-layout_fits.false in
     next_accepts b (count_lines b) (row_lines b) _ taken.0 (rows_off _ layout (found_none _ (sym c.in_default-wrong_row_start.is ∙ c.wrong_row_start.ensures))) taken.1
-

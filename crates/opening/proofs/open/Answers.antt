@@ -1,16 +1,14 @@
 -- what the lines before refuse stays refused, and after them the code goes down lines 6 to 8.
 use mathlib.Core.Path.{◌≡◌, sym, ◌∙◌}
-use mathlib.Core.List.{List, ◌++◌}
+use mathlib.Core.List.{◌++◌}
 use mathlib.Core.Option.{none}
-use Prim.Native.Nat.{ℕ}
-use borrow.Author.Rules.{rules}
 use Rattle.table.specs.First.{first_in}
 use Rattle.table.proofs.Answers.{found_at, found_none}
 use Rattle.table.specs.Given.{first_given}
 use Rattle.table.proofs.Given.{none_in_parts}
 use Rattle.table.specs.Layout.{states_of, edges_of, table_of}
 use Rattle.table.specs.LaidOut.{LaidOut}
-use Rattle.table.specs.Open.{target_wrong, row_empty, mark_wrong, count_lines, row_lines, content_lines, lines_of, open_of}
+use Rattle.table.specs.Open.{target_wrong, row_empty, count_lines, row_lines, content_lines, lines_of, open_of}
 use Rattle.table.specs.Rows.{RowsRight}
 use Rattle.table.proofs.Stages.{accepts_says, stays_refused, next_refuses, next_accepts, counted, rows_leave, laid_out, wrong_target, empty_row, wrong_mark, content_off}
 use Rattle.table.specs.declared.Table.{Table}
@@ -94,4 +92,3 @@ returns c =
     next_accepts b (count_lines b ++ row_lines b) (content_lines b) _ taken.0
     (content_off b targets no_empty (found_none _ (sym c.in_default-wrong_mark.is ∙ c.wrong_mark.ensures)))
     taken.1
-

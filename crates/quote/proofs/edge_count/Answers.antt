@@ -6,4 +6,3 @@ use Rattle.quote.proofs.edge_count.Goals as goal
 pub returns : goal.returns
 unfolding edge_count
 returns c = search rules
-

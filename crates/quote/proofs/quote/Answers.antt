@@ -1,6 +1,5 @@
 -- the sheet is that of opening's answer.
 use mathlib.Core.Path.{sym, ap, ◌∙◌}
-use borrow.Author.Rules.{rules}
 use Rattle.table.proofs.WellFormed.{laid}
 use Rattle.quote.specs.Quote.{sheet_for}
 use Rattle.quote.proofs.QuoteLaws.{quote_is}
@@ -19,4 +18,3 @@ pub returns : goal.returns
 returns c =
     let b = c.args.bytes.now in
     quote_is b _ (sym c.in-Accepted.is ∙ c.open-answer.ensures) _ c.sheet_of.ensures
-

@@ -1,7 +1,6 @@
 -- each field is what the called function gives, and the sizes are small.
 use Prim.Native.Nat.{◌*◌, ◌^◌, ◌≤◌}
 use native.Mathlib.Omega.{arith}
-use borrow.Author.Rules.{rules}
 use Rattle.recorder.proofs.Fits.{count_small}
 use Rattle.quote.proofs.Sizes.{edges_small}
 use Rattle.quote.specs.Quote.{sheet_of}
@@ -38,4 +37,3 @@ overflow_add-result-2 c =
 pub returns : goal.returns
 unfolding sheet_of
 returns c = rw (c.first_with_room.ensures, c.slot_count-slots.ensures, c.edge_count-edges.ensures, c.count-first.ensures, c.count-second.ensures, c.count-third.ensures, c.count-fourth.ensures)
-

@@ -2,11 +2,8 @@
 -- block what the code read of the bytes.
 use mathlib.Core.Path.{◌≡◌, sym, ap, ◌∙◌}
 use mathlib.Core.Bool.{true}
-use mathlib.Core.List.{List}
 use Prim.Native.Nat.{ℕ, ◌<◌}
 use native.Mathlib.Omega.{arith}
-use borrow.Author.Rules.{rules}
-use borrow.Author.Tests.{not-true, not-false}
 use Rattle.recorder.specs.declared.Record.{Record}
 use Rattle.table.specs.Open.{open_of}
 use Rattle.table.specs.BlockOf.{block_of}
@@ -103,4 +100,3 @@ returns c =
       fair_is = sym fair.ensures;
     }))
     ∙ moves b r next _ t opened fits (sym c.has_edge.ensures ∙ c.if-not-has_edge.false)
-

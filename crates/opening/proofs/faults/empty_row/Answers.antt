@@ -1,15 +1,13 @@
 -- it scans the states for an empty row, and carries the row start of the state it is at.
-use mathlib.Core.Path.{◌≡◌, ap}
-use mathlib.Core.List.{List}
-use Prim.Native.Nat.{ℕ, suc, ◌-◌}
+use mathlib.Core.Path.{ap}
+use Prim.Native.Nat.{suc}
 use native.Mathlib.Numerals.{add-one}
 use native.Mathlib.Omega.{arith}
 use borrow.Author.Tests.{eq-eqb, ne_eqb}
-use Rattle.table.specs.Layout.{states_of, row_start}
+use Rattle.table.specs.Layout.{row_start}
 use Rattle.table.specs.Open.{row_empty}
-use Rattle.table.proofs.Scan.{Scanned, scan_begins, scan_goes_on}
+use Rattle.table.proofs.Scan.{scan_begins, scan_goes_on}
 use Rattle.table.proofs.Answers.{scan_finds, scan_ends}
-use Rattle.opening.proofs.faults.empty_row.Invariants.{At}
 use Rattle.opening.proofs.faults.empty_row.Goals as goal
 
 pub loop-s-init : goal.loop-s-init
@@ -34,4 +32,3 @@ loop-s-preserved c =
 
 pub returns : goal.returns
 returns c = scan_ends c.loop-s.invariant.scanned (omega arith)
-

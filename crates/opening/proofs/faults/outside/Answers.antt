@@ -6,4 +6,3 @@ use Rattle.opening.proofs.faults.outside.Goals as goal
 pub returns : goal.returns
 unfolding outside
 returns c = refl
-

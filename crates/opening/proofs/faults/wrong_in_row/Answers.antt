@@ -3,15 +3,15 @@
 use mathlib.Core.Path.{◌≡◌, refl, sym, ap, ◌∙◌}
 use mathlib.Core.Bool.{false}
 use mathlib.Core.List.{List}
-use Prim.Native.Nat.{ℕ, suc, ◌+◌, ◌-◌, ◌≤◌, ◌<◌}
+use Prim.Native.Nat.{ℕ, ◌+◌, ◌-◌, ◌≤◌, ◌<◌}
 use native.Mathlib.Omega.{arith}
 use lib.Arith.{lt_of_le-ne}
 use lib.Dec.{eqb}
 use borrow.Author.Tests.{eqb-false, ne_eqb}
 use Rattle.table.specs.Layout.{states_of, target}
-use Rattle.table.specs.Open.{opens_row, target_wrong}
+use Rattle.table.specs.Open.{opens_row}
 use Rattle.table.proofs.Targets.{TargetRight, target_says, target_wrong_lem}
-use Rattle.table.proofs.Scan.{Scanned, scan_begins, scan_goes_on}
+use Rattle.table.proofs.Scan.{scan_begins, scan_goes_on}
 use Rattle.table.proofs.Answers.{scan_finds, scan_ends}
 use Rattle.opening.proofs.faults.wrong_in_row.Invariants.{At}
 use Rattle.opening.proofs.faults.wrong_in_row.Goals as goal
@@ -70,4 +70,3 @@ loop-i-preserved c =
 
 pub returns : goal.returns
 returns c = scan_ends c.loop-i.invariant.scanned (omega arith)
-

@@ -1,12 +1,12 @@
 -- it scans the states for a mark of 2^(2+m) or more.
 use mathlib.Core.Path.{◌≡◌, sym, ap, ◌∙◌}
-use Prim.Native.Nat.{ℕ, ◌+◌, ◌-◌, ◌*◌, ◌%◌, ◌^◌, ◌≤◌}
+use Prim.Native.Nat.{ℕ, ◌+◌, ◌*◌, ◌%◌, ◌^◌, ◌≤◌}
 use native.Mathlib.Omega.{arith}
 use lib.Pow.{pow-add, shl_exact}
 use borrow.Author.Tests.{le-leb, lt-leb}
-use Rattle.table.specs.Layout.{states_of, sets_of, mark}
+use Rattle.table.specs.Layout.{sets_of, mark}
 use Rattle.table.specs.Open.{mark_wrong}
-use Rattle.table.proofs.Scan.{Scanned, scan_begins, scan_goes_on}
+use Rattle.table.proofs.Scan.{scan_begins, scan_goes_on}
 use Rattle.table.proofs.Answers.{scan_finds, scan_ends}
 use Rattle.opening.proofs.faults.wrong_mark.Goals as goal
 
@@ -38,4 +38,3 @@ loop-s-preserved c =
 
 pub returns : goal.returns
 returns c = scan_ends c.loop-s.invariant (omega arith)
-

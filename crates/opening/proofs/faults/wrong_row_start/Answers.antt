@@ -102,4 +102,3 @@ returns c =
     scan_ends (scan_on (states_of b + 1) s (omega arith) (omega arith) (λ j p q. right b _ _ l.invariant j (omega arith) (λ e.
     let d : j ≡ l.i - 1 = omega arith in
     omega (arith, l.invariant.before-is, ap (row_start b) d)))) (omega arith)
-

@@ -1,15 +1,8 @@
 -- What the loop keeps.
-use mathlib.Core.Path.{◌≡◌, refl, ap, ◌∙◌}
-use mathlib.Core.Bool.{false}
+use mathlib.Core.Path.{◌≡◌}
 use mathlib.Core.List.{List}
 use Prim.Native.Nat.{ℕ, suc, ◌+◌, ◌-◌, ◌≤◌, ◌<◌}
-use native.Mathlib.Decide.{dec_lt}
-use native.Mathlib.Omega.{arith}
 use Rattle.table.specs.Layout.{states_of, edges_of, row_start}
-use Rattle.table.specs.Open.{row_start_wrong}
-use Rattle.table.proofs.Rows.{start_says, start_wrong}
-use Rattle.table.proofs.Scan.{Scanned, scan_begins, scan_on}
-use Rattle.table.proofs.Answers.{scan_finds, scan_ends}
 use Rattle.opening.proofs.faults.wrong_row_start.Given as goal
 
 pub record At (b : List ℕ) (before i : ℕ) : Type 0 where
@@ -27,4 +20,3 @@ invariant-loop-i l = At l.bytes l.before l.i
 
 abbrev pub decreases-loop-i : goal.decreases-loop-i
 decreases-loop-i l = l.n + 1 - l.i
-

@@ -1,18 +1,14 @@
 -- it scans the targets row by row, and carries where the row of s starts.
 use mathlib.Core.Path.{◌≡◌, sym, ap, ◌∙◌}
-use mathlib.Core.List.{List}
-use Prim.Native.Nat.{ℕ, suc, ◌-◌, ◌≤◌}
+use Prim.Native.Nat.{suc}
 use native.Mathlib.Numerals.{add-one}
 use native.Mathlib.Omega.{arith}
 use lib.Dec.{eqb}
-use borrow.Author.Rules.{rules}
-use Rattle.table.specs.Layout.{states_of, edges_of, row_start}
-use Rattle.table.specs.Open.{target_wrong}
+use Rattle.table.specs.Layout.{states_of, row_start}
 use Rattle.table.proofs.Rows.{row_starts_to}
 use Rattle.table.proofs.Targets.{first_opens}
-use Rattle.table.proofs.Scan.{Scanned, scan_begins}
+use Rattle.table.proofs.Scan.{scan_begins}
 use Rattle.table.proofs.Answers.{scan_ends, part_finds, part_ends}
-use Rattle.opening.proofs.faults.wrong_target.Invariants.{At}
 use Rattle.opening.proofs.faults.wrong_target.Goals as goal
 
 pub loop-s-init : goal.loop-s-init
@@ -62,4 +58,3 @@ returns c =
     let p = c.requires in
     let d : l.s ≡ states_of b = omega arith in
     scan_ends l.invariant.scanned (omega (arith, p.rows_right.last_row, ap (row_start b) d))
-

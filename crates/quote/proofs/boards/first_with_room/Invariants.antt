@@ -1,10 +1,7 @@
 -- What the loop keeps.
-use mathlib.Core.Path.{sym, ap}
-use mathlib.Core.Option.{Option, get_or}
-use Prim.Native.Nat.{ℕ, ◌-◌}
-use native.Mathlib.Omega.{arith}
-use Rattle.table.proofs.Scan.{Scanned, scan_begins, scan_goes_on, scan_first, scan_none}
-use Rattle.quote.specs.Boards.{boards, has_room, board_of}
+use Prim.Native.Nat.{◌-◌}
+use Rattle.table.proofs.Scan.{Scanned}
+use Rattle.quote.specs.Boards.{has_room}
 use Rattle.quote.proofs.boards.first_with_room.Given as goal
 
 -- no row before r has room
@@ -13,4 +10,3 @@ invariant-loop-r l = Scanned 0 8 (has_room l.slots l.edges) l.r
 
 abbrev pub decreases-loop-r : goal.decreases-loop-r
 decreases-loop-r l = 8 - l.r
-

@@ -1,14 +1,13 @@
 -- after s states it has counted those of the first s that set i holds.
 use mathlib.Core.Path.{◌≡◌, refl, sym, ap, ap₂, ◌∙◌}
-use mathlib.Core.Bool.{Bool, cond}
+use mathlib.Core.Bool.{cond}
 use mathlib.Core.List.{List}
-use Prim.Native.Nat.{ℕ, zero, suc, ◌+◌, ◌-◌, ◌*◌, ◌/◌, ◌%◌, ◌^◌, ◌≤◌, ◌<◌}
+use Prim.Native.Nat.{ℕ, zero, suc, ◌+◌, ◌*◌, ◌/◌, ◌%◌, ◌^◌, ◌<◌}
 use native.Mathlib.Nat.{mod-lt}
 use native.Mathlib.Numerals.{add-one}
 use native.Mathlib.Omega.{arith}
 use lib.Dec.{eqb}
 use lib.Pow.{pow_pos}
-use Rattle.recorder.specs.Block.{Block}
 use Rattle.recorder.proofs.Fits.{one_shl}
 use Rattle.table.specs.Layout.{states_of}
 use Rattle.table.specs.BlockOf.{block_of}
@@ -65,4 +64,3 @@ returns c =
     let l = c.loop-s in
     let e : l.s ≡ states_of b = omega arith in
     l.invariant.counted ∙ ap (λ (k : ℕ). count_below k (holds (block_of b) c.args.i)) e
-

@@ -1,19 +1,12 @@
 -- What the loop keeps.
-use mathlib.Core.Path.{◌≡◌, refl, sym, ap, ap₂, ◌∙◌}
-use mathlib.Core.Bool.{Bool, cond}
+use mathlib.Core.Path.{◌≡◌}
+use mathlib.Core.Bool.{Bool}
 use mathlib.Core.List.{List}
-use Prim.Native.Nat.{ℕ, zero, suc, ◌+◌, ◌-◌, ◌*◌, ◌/◌, ◌%◌, ◌^◌, ◌≤◌, ◌<◌}
-use native.Mathlib.Nat.{mod-lt}
-use native.Mathlib.Numerals.{add-one}
-use native.Mathlib.Omega.{arith}
+use Prim.Native.Nat.{ℕ, ◌-◌, ◌/◌, ◌%◌, ◌^◌, ◌≤◌}
 use lib.Dec.{eqb}
-use lib.Pow.{pow_pos}
 use Rattle.recorder.specs.Block.{Block}
-use Rattle.recorder.proofs.Fits.{one_shl}
-use Rattle.table.specs.Layout.{states_of}
 use Rattle.table.specs.BlockOf.{block_of}
-use Rattle.table.proofs.Inside.{mark_inside}
-use Rattle.quote.specs.Members.{count_below, members_of}
+use Rattle.quote.specs.Members.{count_below}
 use Rattle.quote.proofs.members.count.Given as goal
 
 -- set i holds state s
@@ -33,4 +26,3 @@ invariant-loop-s l = At l.bytes l.n l.i l.unit l.found l.s
 
 abbrev pub decreases-loop-s : goal.decreases-loop-s
 decreases-loop-s l = l.n - l.s
-

@@ -1,5 +1,5 @@
 -- It scans the row of s for the target s2, and an edge is a target in the row.
-use Rattle.std.proofs.Common.{sym, ap, ◌∙◌, ◌≡◌, ◌+◌, ◌<◌, suc, true≢false, arith, eq-eqb}
+use Rattle.std.proofs.Common.{sym, ap, ◌∙◌, ◌<◌, suc, true≢false, arith, eq-eqb}
 use Rattle.std.proofs.Math.Numerals.{add-one}
 use Rattle.table.specs.Layout.{row_start, target}
 use Rattle.table.specs.BlockOf.{block_of}
@@ -30,5 +30,5 @@ returns c =
     let s = c.args.s in
     let s2 = c.args.s2 in
     sym (fails_if_not_passes ((block_of b).edge s s2) (λ e.
-        let (p, (i, f, g, q)) = (edge_is b s s2).0 e in
-        true≢false (sym (eq-eqb (target b i) s2 q) ∙ c.loop-i.invariant.none i f (omega (arith, ap (row_start b) (add-one s))))))
+    let (p, (i, f, g, q)) = (edge_is b s s2).0 e in
+    true≢false (sym (eq-eqb (target b i) s2 q) ∙ c.loop-i.invariant.none i f (omega (arith, ap (row_start b) (add-one s))))))
