@@ -4,9 +4,11 @@
 // fits and that reading ends.
 #![tactic(auto)]
 
-ghost use Rattle.std.specs.Prelude.{◌≡◌, length, ◌≤◌};
+ghost use Rattle.std.specs.Prelude.{◌≡◌, false, true, ◌⊎◌, length, take, ◌≤◌};
+ghost use Rattle.std.specs.Io.KnownBytes.{Appends, Consumes, IsAtEnd};
 ghost use Rattle.io.specs.Counts.{IsPrefixLen};
 ghost use Rattle.streams.specs.Counted.{part_of, PartCounts};
+ghost use Rattle.streams.specs.Known.{PartReads, PartReason};
 
 use std::io;
 use std::io::{ErrorKind, Write};
@@ -44,7 +46,9 @@ fn part_of(failed: bool, interrupted: bool, n: usize) -> Part
 
 // Reads once. A pipe may deliver fewer bytes than there is room for. The error of a read that failed is left in `reason`.
 fn read_part<R: io::Read>(input: &mut R, part: &mut [u8], reason: &mut io::Error) -> Part
-    ensures { PartCounts result (length part.old) }
+    ensures counts { PartCounts result (length part.old) }
+    ensures bytes { PartReads (R.remaining input.old) (R.remaining input.new) result part.new }
+    ensures reason { PartReason result reason.new }
 {
     match input.read(part) {
         Ok(n) => part_of(false, false, n),
@@ -59,7 +63,9 @@ fn read_part<R: io::Read>(input: &mut R, part: &mut [u8], reason: &mut io::Error
 // Reads until the input ends or the buffer is full. A read that a signal interrupts is made again. A proved loop has to end, so its turns are counted
 // up to a number that no run comes to. The error of the last read that failed is left in `reason`.
 fn read_all<R: io::Read>(input: &mut R, table: &mut [u8; 4449], reason: &mut io::Error) -> Read
-    ensures { IsPrefixLen result.count table.new }
+    ensures counts { IsPrefixLen result.count table.new }
+    ensures bytes { Consumes (R.remaining input.old) (R.remaining input.new) (take result.count table.new) }
+    ensures all { result.failed ≡ false → (result.count ≡ 4449) ⊎ IsAtEnd (R.remaining input.new) }
 {
     let bytes: &mut [u8] = table;
     let mut done = 0;
@@ -103,7 +109,10 @@ pub fn read_table<R: io::Read, E: io::Write>(
     table: &mut [u8; 4449],
     why: &[u8],
 ) -> Read
-    ensures { IsPrefixLen result.count table.new }
+    ensures counts { IsPrefixLen result.count table.new }
+    ensures bytes { Consumes (R.remaining input.old) (R.remaining input.new) (take result.count table.new) }
+    ensures all { result.failed ≡ false → (result.count ≡ 4449) ⊎ IsAtEnd (R.remaining input.new) }
+    ensures quiet { result.failed ≡ false → errors.new ≡ errors.old }
 {
     let mut reason = io::Error::from(ErrorKind::Interrupted);
     let read = read_all(input, table, &mut reason);
@@ -113,17 +122,21 @@ pub fn read_table<R: io::Read, E: io::Write>(
     read
 }
 
-// Writes the first n bytes. Where that fails, the line `why` with the system's reason goes to `errors`.
+// Writes the first n bytes, and returns whether all were written. Where not, the line `why` with the system's reason goes to `errors`.
 pub fn write_first<W: io::Write, E: io::Write>(
     output: &mut W,
     errors: &mut E,
     bytes: &[u8],
     n: usize,
     why: &[u8],
-)
+) -> bool
     requires { n ≤ length bytes.now }
+    ensures bytes { result ≡ true → Appends (W.contents output.old) (W.contents output.new) (take n bytes.now) }
+    ensures quiet { result ≡ true → errors.new ≡ errors.old }
 {
     if let Err(reason) = output.write_all(&bytes[..n]) {
         tell(errors, why, reason);
+        return false;
     }
+    true
 }
