@@ -1,1 +1,2 @@
-mod Came
+pub mod Came
+pub mod Parts
