@@ -1,5 +1,7 @@
 // Runs cases of the table's own lines of the refusal list, and of the quote sheet, and prints a line for each: what the table opens as, or its quote.
 // docs/RULES.md, "The table file", "Quote sheet", "Refusal list" and "Tables by hand". The file stdout has what they must be.
+#![tactic(auto)]
+
 mod base;
 mod boards;
 mod builder;
@@ -12,11 +14,13 @@ mod spread;
 mod twelve;
 mod two;
 
-fn main() {
-    heads::run();
-    rows::run();
-    marks::run();
-    two::run();
-    twelve::run();
-    boards::run();
+use std::io;
+
+fn main(rt: HostRuntime) -> io::Result<()> {
+    heads::run(&rt)?;
+    rows::run(&rt)?;
+    marks::run(&rt)?;
+    two::run(&rt)?;
+    twelve::run(&rt)?;
+    boards::run(&rt)
 }

@@ -1,4 +1,6 @@
 // Cases of a translation, one line each, held to the file `stdout`. docs/RULES.md, "Translated table", "Refusal list" and "Tables by hand".
+#![tactic(auto)]
+
 mod again;
 mod hand;
 mod large;
@@ -9,11 +11,13 @@ mod room;
 mod sets;
 mod show;
 
-fn main() {
-    hand::run();
-    lengths::run();
-    again::run();
-    refused::run();
-    sets::run();
-    large::run();
+use std::io;
+
+fn main(rt: HostRuntime) -> io::Result<()> {
+    hand::run(&rt)?;
+    lengths::run(&rt)?;
+    again::run(&rt)?;
+    refused::run(&rt)?;
+    sets::run(&rt)?;
+    large::run(&rt)
 }
