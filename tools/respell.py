@@ -25,18 +25,18 @@ APART = {
     "after-sets": "after_sets_lem",
     "after-states": "after_states_lem",
     "is-start": "is_start_lem",
-    "marks-offset": "marks_offset_lem",
+    "marks-offset": "marks_offset_is",
     "opens_row": "opens_row_lem",
     "path-by": "path_by_lem",
     "record-at": "record_at_lem",
     "record_of": "record_of_lem",
     "record-of-slot": "record_of_slot_lem",
     "row-to": "row_to_lem",
-    "rows-offset": "rows_offset_lem",
+    "rows-offset": "rows_offset_is",
     "same-quote": "same_quote_lem",
     "start-slot": "start_slot_lem",
     "target-wrong": "target_wrong_lem",
-    "targets-offset": "targets_offset_lem",
+    "targets-offset": "targets_offset_is",
 }
 # A name that is only a parameter there.
 LOCAL = {"crates/search/specs/Starts.antt": {"is-start": "is_start"}}

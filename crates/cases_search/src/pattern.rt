@@ -1,7 +1,7 @@
 // What a buffer has before a search, and how much of it stays. docs/RULES.md, "Buffers".
 
 // The first word, and how much each later one is above the one before it.
-#[derive(Drop)]
+#[derive(Clone, Copy)]
 pub(crate) struct Pattern {
     pub(crate) first: u32,
     pub(crate) step: u32,

@@ -2,4 +2,3 @@
 pub mod Drawn
 pub mod HandRow
 pub mod Rows
-pub mod Twelve

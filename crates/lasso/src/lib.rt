@@ -1,6 +1,8 @@
 // The C interface: the five jobs on numbers and slices. Nothing here decides anything. Each function calls the job of its name and spells the answer
 // out: it returns 0, or the number of the refusal, and fills the words of the answer, the first of which is the refusal's place. What the words are
 // stands in specs/Words.antt, and for C in bindings/lasso.h.
+#![tactic(auto)]
+
 ghost use Rattle.std.specs.Prelude.{◌≡◌};
 ghost use Rattle.lasso.specs.Words.{open_number, open_place};
 ghost use Rattle.lasso.specs.Says.{OpenSaid, QuoteSaid, SearchSaid, TranslateSaid, StepSaid};

@@ -1,6 +1,4 @@
 -- The text of the programs is Text, what they answer Says; the rest are laws. Assumes nothing.
 pub mod Text
-pub mod Decimal
 pub mod Puts
 pub mod Says
-pub mod Laws

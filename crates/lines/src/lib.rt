@@ -1,4 +1,6 @@
 // What the two programs print, made in a lent buffer. docs/RULES.md, "What the programs print". The rules stand in specs/.
+#![tactic(auto)]
+
 mod lines;
 mod put;
 

@@ -1,5 +1,7 @@
 // Opening a table: down the refusal list in three stages, each over the one before it. docs/RULES.md, "The table file" and "Refusal list". The rules
 // stand in the crate `table`.
+#![tactic(auto)]
+
 mod faults;
 
 ghost use Rattle.std.specs.Prelude.{◌≡◌, ◌++◌};

@@ -1,1 +1,3 @@
 // No code: the theory of searches stands in specs.
+#![tactic(auto)]
+

@@ -2,7 +2,7 @@
 ghost use Rattle.std.specs.Prelude.{◌≡◌};
 ghost use Rattle.quote.specs.Boards.{board_of};
 
-#[derive(Drop)]
+#[derive(Clone, Copy)]
 pub struct Board {
     pub slots: usize,
     pub edges: usize,

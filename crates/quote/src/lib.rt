@@ -1,4 +1,6 @@
 // The quote sheet: what a table costs on a board, after recording. docs/RULES.md, "Quote sheet". The rules stand in specs/.
+#![tactic(auto)]
+
 mod boards;
 mod members;
 
@@ -11,7 +13,7 @@ pub use boards::Board;
 use table::{Opened, Table};
 
 // S, E and the translated length of the recorded table, the members of fairness sets 0 to 3, and the board: 0 to 7, or 8 for none.
-#[derive(Drop)]
+#[derive(Clone, Copy)]
 pub struct Sheet {
     pub slots: usize,
     pub edges: usize,
@@ -21,7 +23,7 @@ pub struct Sheet {
 }
 
 // The sheet beside the answer: the table accepted, or its refusal with a sheet of zeros.
-#[derive(Drop)]
+#[derive(Clone, Copy)]
 pub struct Quoted {
     pub answer: Opened,
     pub sheet: Sheet,

@@ -7,9 +7,8 @@ use Rattle.recorder.specs.Lasso.{Lasso, Run, state}
 use Rattle.recorder.specs.Flag.{Flag, live_flag, LassoBy}
 use Rattle.recorder.specs.Recorder.{RecordRun, Choice, place, Fits, record_at, record_of, bad_of}
 use Rattle.recorder.specs.Looped.{Looped}
-use Rattle.recorder.specs.Matching.{Matching, matching}
-use Rattle.recorder.specs.Bad.{ends_bad, one_not_bad, bad_is_lasso}
-use Rattle.recorder.specs.Words.{word, same_word, word_at}
+use Rattle.recorder.specs.Matching.{Matching}
+use Rattle.recorder.specs.Words.{word}
 use Rattle.recorder.specs.declared.Record.{Record}
 
 -- what is said of the flag F and the lassos that L says
@@ -27,30 +26,8 @@ pub record Demand3By (F : Flag) (B : Block) (L : List ℕ → ℕ → Type 0) : 
   -- the numbers determine the run
   pub determined : (rs rs' : List Record) → RecordRun F B rs → RecordRun F B rs' → word B rs ≡ word B rs' → rs ≡ rs'
 
--- it holds of every flag and its lassos
-pub demand3_by : (F : Flag) (B : Block) → Sound B → Demand3By F B (LassoBy F B)
-demand3_by F B ok = record {
-  one_to_one = matching F B ok;
-  bad = λ ss c k r f e. ends_bad F B ok ss r k e c f;
-  never = λ ss c r e. one_not_bad F B ok ss r e c;
-  numbers = word_at F B ok;
-  determined = same_word F B ok;
-}
-
 -- ---- the rules' flag
 
 -- the same of the lassos of docs/RULES.md, "Lasso and choice"
 abbrev pub Demand3 : Block → Type 0
 Demand3 B = Demand3By live_flag B (Lasso B)
-
--- it holds of every sound block
-pub demand3 : (B : Block) → Sound B → Demand3 B
-demand3 B ok =
-    let d = demand3_by live_flag B ok in
-    record {
-      one_to_one = d.one_to_one;
-      bad = λ ss c k r f e. bad_is_lasso B ok ss r k e c f;
-      never = d.never;
-      numbers = d.numbers;
-      determined = d.determined;
-    }

@@ -8,7 +8,8 @@ use Rattle.std.proofs.Math.Decide.{dec_lt}
 use native.Mathlib.Omega.{arith}
 use Rattle.std.proofs.Math.ListN.{length}
 use Rattle.std.proofs.Math.Seq.{append_snoc}
-use Rattle.order.specs.Word.{Word, ◌▸◌, length-▸}
+use Rattle.order.specs.Word.{Word, ◌▸◌}
+use Rattle.order.proofs.Word.{length-▸}
 use Rattle.order.specs.Graph.{Graph}
 use Rattle.order.specs.Log.{Entry, climb, path}
 use Rattle.recorder.specs.Block.{Block}

@@ -4,19 +4,20 @@
 use Rattle.std.specs.Prelude.{◌≡◌, refl, List, ◌++◌, ℕ, ◌-◌, ◌*◌, ◌≤◌, length, drop}
 use Rattle.std.proofs.Common.{sym, ap, ◌∙◌, arith}
 use Rattle.order.specs.Graph.{Safe}
-use Rattle.order.specs.Turn.{search_stops}
+use Rattle.order.proofs.Turn.{search_stops}
 use Rattle.order.specs.Word.{Word}
 use Rattle.recorder.specs.Flag.{Flag, live_flag, LassoBy}
 use Rattle.recorder.specs.Lasso.{Least}
-use Rattle.recorder.specs.Least.{least_by, least_of_block, least_live}
-use Rattle.recorder.specs.SlotGraph.{slots_determined}
+use Rattle.recorder.proofs.Least.{least_by, least_of_block, least_live}
+use Rattle.recorder.proofs.SlotGraph.{slots_determined}
 use Rattle.table.specs.Layout.{states_of, sets_of}
 use Rattle.table.specs.BlockOf.{block_of}
 use Rattle.table.specs.WellFormed.{WellFormed}
 use Rattle.table.specs.LaidOut.{LaidOut}
-use Rattle.table.specs.Sound.{sound}
+use Rattle.table.proofs.Sound.{sound}
 use Rattle.table.specs.declared.Table.{Table}
-use Rattle.table.specs.Recording.{slots_of, graph_of, block_states, block_sets}
+use Rattle.table.specs.Recording.{slots_of, graph_of}
+use Rattle.table.proofs.Recording.{block_states, block_sets}
 use Rattle.writing.specs.Cleared.{cleared, length-cleared, cleared_at, cleared_past, cleared_again}
 use Rattle.search.specs.Climb.{Climbs, path_by, label_of, kept_climbs, slot_path}
 use Rattle.search.specs.Report.{halves, odds, Reports, lasso_reported}

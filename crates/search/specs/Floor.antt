@@ -4,15 +4,17 @@ use Rattle.std.specs.Prelude.{◌≡◌, refl, true, false, cond, List, ℕ, suc
 use Rattle.std.proofs.Common.{ap, ◌∙◌, arith, eq-eqb, ne_eqb}
 use Rattle.std.proofs.Math.Decide.{dec_lt}
 use Rattle.order.specs.Log.{Queue}
-use Rattle.order.specs.Turn.{Between, Turning, turn_begins, turn_skips, turn_ends}
+use Rattle.order.specs.Turn.{Between, Turning}
+use Rattle.order.proofs.Turn.{turn_begins, turn_skips, turn_ends}
 use Rattle.recorder.specs.Flag.{Flag}
 use Rattle.recorder.specs.SlotGraph.{at}
 use Rattle.table.specs.Layout.{states_of, target}
 use Rattle.table.specs.BlockOf.{block_of}
 use Rattle.table.specs.WellFormed.{WellFormed}
-use Rattle.table.specs.Row.{row_some, row_gap, row_last, row_edge}
-use Rattle.table.specs.Labels.{label_saving, label_plain, label_of, label_of_saved}
-use Rattle.table.specs.Recording.{graph_of, next_of, state_of, from_of, to_of, Unsaved}
+use Rattle.table.proofs.Row.{row_some, row_gap, row_last, row_edge}
+use Rattle.table.proofs.Labels.{label_saving, label_plain, label_of, label_of_saved}
+use Rattle.table.specs.Recording.{graph_of, next_of, state_of, from_of, to_of}
+use Rattle.table.proofs.Recording.{Unsaved}
 
 -- all labels below this one are dealt with when a turn has come to index i of the row that starts at `from`
 unfoldable pub floor_at : List ℕ → ℕ → ℕ → ℕ

@@ -6,16 +6,18 @@ use Rattle.std.proofs.lemmas.Bool.{eqb-false}
 use Rattle.order.specs.Turn.{Between}
 use Rattle.recorder.specs.Flag.{Flag}
 use Rattle.recorder.specs.Recorder.{step_of, bad_of}
-use Rattle.recorder.specs.Bad.{bad_says}
-use Rattle.recorder.specs.SlotGraph.{at, at_next, edges_apart}
+use Rattle.recorder.proofs.Bad.{bad_says}
+use Rattle.recorder.specs.SlotGraph.{at}
+use Rattle.recorder.proofs.SlotGraph.{at_next, edges_apart}
 use Rattle.table.specs.Layout.{states_of, target}
 use Rattle.table.specs.BlockOf.{block_of}
 use Rattle.table.specs.WellFormed.{WellFormed}
-use Rattle.table.specs.Sound.{sound}
+use Rattle.table.proofs.Sound.{sound}
 use Rattle.search.specs.Workspace.{slot_at, queue_of, Kept, kept_le}
 use Rattle.search.specs.Meet.{MeetAsks, MeetSays, MeetIfSays, Met, meets, meets_if, met_trans, meet_turns}
-use Rattle.table.specs.Row.{row_some, row_edge}
-use Rattle.table.specs.Recording.{slots_of, graph_of, next_of, block_states, state_of, from_of, to_of, Unsaved, slots_few, state_in, next_in}
+use Rattle.table.proofs.Row.{row_some, row_edge}
+use Rattle.table.specs.Recording.{slots_of, graph_of, next_of, state_of, from_of, to_of}
+use Rattle.table.proofs.Recording.{block_states, Unsaved, slots_few, state_in, next_in}
 use Rattle.search.specs.Floor.{floor_at, Upto, row_begins, row_next, row_other, row_done, row_done_saved, row_ends}
 use Rattle.search.specs.Scan.{Stopped}
 

@@ -5,13 +5,14 @@ use Rattle.std.proofs.Math.Path.{refl}
 use Rattle.std.proofs.Common.{sym, ap, ap₂, ◌∙◌, arith, lt-ltb, le-ltb}
 use Rattle.std.proofs.Math.Option.{Option, none, some}
 use Rattle.recorder.specs.Block.{Block, Sound}
-use Rattle.recorder.specs.Least.{least_of_block}
+use Rattle.recorder.proofs.Least.{least_of_block}
 use Rattle.table.specs.Open.{open_of}
 use Rattle.table.specs.Given.{given, first_given}
-use Rattle.table.specs.InOrder.{end, ByTheList, position_after, line, by_the_list}
+use Rattle.table.specs.InOrder.{end, ByTheList, position_after}
+use Rattle.table.proofs.InOrder.{line, by_the_list}
 use Rattle.table.specs.BlockOf.{block_of}
-use Rattle.table.specs.WellFormed.{well_formed}
-use Rattle.table.specs.Sound.{sound}
+use Rattle.table.proofs.WellFormed.{well_formed}
+use Rattle.table.proofs.Sound.{sound}
 use Rattle.table.specs.declared.Table.{Table}
 use Rattle.table.specs.declared.Opened.{Opened}
 use Rattle.table.specs.declared.Opened.TheVariants.{Accepted, Refused as TableRefused}

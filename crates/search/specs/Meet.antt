@@ -3,7 +3,8 @@ use Rattle.std.specs.Prelude.{◌≡◌, refl, Bool, true, false, List, ℕ, suc
 use Rattle.std.proofs.Common.{ap, ◌∙◌, add-one, arith, length-set, drop-set-lt}
 use Rattle.std.proofs.Math.Decide.{ℕ_discrete}
 use Rattle.order.specs.Graph.{Graph}
-use Rattle.order.specs.Turn.{Turning, turn_passes, turn_queues}
+use Rattle.order.specs.Turn.{Turning}
+use Rattle.order.proofs.Turn.{turn_passes, turn_queues}
 use Rattle.search.specs.Workspace.{origin_at, slot_at, queue_of, Kept, meeting, room_left, meeting_agrees, meeting_node, meeting_origin, meeting_keeps}
 
 -- slot x, of S, can be met with the origin o: the queue is in order, and the numbers fit the words

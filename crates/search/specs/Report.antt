@@ -4,9 +4,10 @@ use Rattle.std.specs.Prelude.{◌≡◌, refl, Bool, true, false, cond, List, []
 use Rattle.std.proofs.Common.{sym, ap, ap₂, ◌∙◌, arith, le-leb}
 use Rattle.std.proofs.Math.Decide.{dec_lt}
 use Rattle.std.proofs.lemmas.Bool.{lt-leb}
-use Rattle.order.specs.Word.{Word, ◌▸◌, length-▸, ▸_inj}
+use Rattle.order.specs.Word.{Word, ◌▸◌}
+use Rattle.order.proofs.Word.{length-▸, ▸_inj}
 use Rattle.recorder.specs.Lasso.{state, numbers_from, tie_of}
-use Rattle.recorder.specs.Ties.{length-tie}
+use Rattle.recorder.proofs.Ties.{length-tie}
 
 -- the states of a word's letters
 unfoldable pub halves : Word → List ℕ

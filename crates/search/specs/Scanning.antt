@@ -3,7 +3,8 @@
 use Rattle.std.specs.Prelude.{◌≡◌, List, ℕ, ◌≤◌, ◌<◌}
 use Rattle.std.proofs.Common.{arith}
 use Rattle.order.specs.Graph.{Safe}
-use Rattle.order.specs.Turn.{Between, search_ends}
+use Rattle.order.specs.Turn.{Between}
+use Rattle.order.proofs.Turn.{search_ends}
 use Rattle.recorder.specs.Flag.{Flag}
 use Rattle.table.specs.Recording.{slots_of, graph_of}
 use Rattle.search.specs.Workspace.{queue_of, Kept}

@@ -4,19 +4,21 @@ use Rattle.std.specs.Prelude.{◌≡◌, refl, Bool, true, false, List, ℕ, suc
 use Rattle.std.proofs.Common.{sym, ap, ◌∙◌, true≢false, add-one, arith, eq-eqb}
 use Rattle.std.proofs.Math.Decide.{dec_lt, ℕ_discrete}
 use Rattle.order.specs.Log.{Queued, Entry, by_label}
-use Rattle.order.specs.Loop.{Agree, empty, push_entry, queued}
+use Rattle.order.proofs.Loop.{Agree, empty, push_entry, queued}
 use Rattle.order.specs.Turn.{Between}
 use Rattle.recorder.specs.Flag.{Flag}
 use Rattle.recorder.specs.Recorder.{start_of, bad_of, number}
-use Rattle.recorder.specs.Bad.{bad_says}
-use Rattle.recorder.specs.SlotGraph.{at, slot, at_start}
+use Rattle.recorder.proofs.Bad.{bad_says}
+use Rattle.recorder.specs.SlotGraph.{at, slot}
+use Rattle.recorder.proofs.SlotGraph.{at_start}
 use Rattle.table.specs.Layout.{states_of}
 use Rattle.table.specs.BlockOf.{block_of}
 use Rattle.table.specs.WellFormed.{WellFormed}
 use Rattle.table.specs.LaidOut.{LaidOut}
-use Rattle.table.specs.Sound.{sound}
+use Rattle.table.proofs.Sound.{sound}
 use Rattle.table.specs.declared.Table.{Table}
-use Rattle.table.specs.Recording.{slots_of, graph_of, start_slot, start_below, block_states, slots_few}
+use Rattle.table.specs.Recording.{slots_of, graph_of}
+use Rattle.table.proofs.Recording.{start_slot, start_below, block_states, slots_few}
 use Rattle.search.specs.Workspace.{origin_at, slot_at, queue_of, Kept, kept_none, meeting, meeting_agrees, meeting_node, meeting_origin, meeting_keeps}
 use Rattle.search.specs.Meet.{MeetAsks, MeetIfSays, SameRest}
 

@@ -5,7 +5,7 @@ use Rattle.std.specs.Prelude.{◌≡◌, refl, Bool, true, false, cond, List, �
 use Rattle.std.proofs.Common.{sym, ap, ◌∙◌, arith, length-set, get_or-set_same, get_or-set_other, eq-eqb, ne_eqb, lt-ltb, le-ltb}
 use Rattle.std.proofs.Math.Decide.{dec_lt, ℕ_discrete}
 use Rattle.order.specs.Log.{Queue}
-use Rattle.order.specs.Loop.{Agree}
+use Rattle.order.proofs.Loop.{Agree}
 
 -- the origin of slot x, as it is written: 0 where x was not met
 abbrev pub origin_at : List ℕ → ℕ → ℕ

@@ -1,4 +1,6 @@
 // The search for the least lasso. docs/RULES.md, "Lasso and choice" and "Refusal list". The rules stand in specs/.
+#![tactic(auto)]
+
 mod climb;
 mod meet;
 mod scan;
@@ -11,7 +13,7 @@ use scan::Seen;
 use table::{Opened, Refusal, Table};
 
 // What a search answers: the least lasso's length k and loop place l, that the goal holds, or why it is refused.
-#[derive(Drop)]
+#[derive(Clone, Copy)]
 pub enum Answer {
     Lasso { k: usize, l: usize },
     Holds,

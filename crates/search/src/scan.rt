@@ -7,7 +7,7 @@ use recorder::Record;
 use table::Table;
 
 // What a scan saw: a bad slot, that the index head of the queue leads to, or none.
-#[derive(Drop)]
+#[derive(Clone, Copy)]
 pub enum Seen {
     Bad { head: usize, slot: usize },
     Clean,

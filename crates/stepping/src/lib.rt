@@ -1,4 +1,6 @@
 // Moving one record along one edge of a table. docs/RULES.md, "The recorder" and lines 12 and 13 of "Refusal list". The rules stand in specs/.
+#![tactic(auto)]
+
 ghost use Rattle.std.specs.Prelude.{◌≡◌, ◌≤◌};
 ghost use Rattle.stepping.specs.Step.{record_fits, stepped_of};
 
@@ -6,7 +8,7 @@ use recorder::Record;
 use table::{Opened, Refusal};
 
 // What a step answers.
-#[derive(Drop)]
+#[derive(Clone, Copy)]
 pub enum Stepped {
     Moved(Record),
     Refused(Refusal),

@@ -20,15 +20,3 @@ pub record MarkInside (b : List ℕ) (t : Table) (s : ℕ) : Type 0 where
   pub states_are : t.states ≡ states_of b
   pub edges_are : t.edges ≡ edges_of b
   pub inside : marks_at t.states t.edges + s < length b
-
--- ---- laws
-
-module _ (b : List ℕ) (t : Table) (l : LaidOut b t) where
-  pub row_inside : (s : ℕ) → s ≤ t.states → RowInside b s
-  row_inside s h = record { inside = omega arith }
-
-  pub target_inside : (i : ℕ) → i < t.edges → TargetInside b t i
-  target_inside i h = record { states_are = l.states_are; inside = omega arith }
-
-  pub mark_inside : (s : ℕ) → s < t.states → MarkInside b t s
-  mark_inside s h = record { states_are = l.states_are; edges_are = l.edges_are; inside = omega arith }

@@ -1,23 +1,15 @@
 -- The table file and the refusal list, up to BlockOf, and then what follows from them, each file over the ones before it. Assumes nothing.
 pub mod First
-pub mod Scan
 pub mod Given
 pub mod Layout
 pub mod Refusals
 pub mod Open
 pub mod InOrder
 pub mod BlockOf
-pub mod Bits
-pub mod Facts
 pub mod LaidOut
 pub mod Answers
 pub mod Inside
 pub mod Rows
-pub mod Targets
-pub mod Stages
 pub mod WhichCount
 pub mod WellFormed
-pub mod Sound
-pub mod Row
 pub mod Recording
-pub mod Labels

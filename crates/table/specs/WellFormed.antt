@@ -3,18 +3,14 @@
 use Rattle.std.specs.Prelude.{◌≡◌, refl, ◌↔◌, List, ℕ, suc, ◌+◌, ◌≤◌, ◌<◌, length}
 use Rattle.std.proofs.Common.{sym, ap, ◌∙◌, zero-le}
 use Rattle.std.proofs.Math.Option.{none}
-use Rattle.order.specs.Settled.{settled}
+use Rattle.order.proofs.Settled.{settled}
 use Rattle.recorder.specs.Block.{HasBit}
-use Rattle.table.specs.First.{first_in, first_none}
-use Rattle.table.specs.Given.{first_given, none_given, test_off, index_off}
+use Rattle.table.specs.First.{first_in}
+use Rattle.table.specs.Given.{first_given}
 use Rattle.table.specs.Layout.{kind_of, states_of, edges_of, sets_of, rows_offset, targets_offset, marks_offset, rows_at, targets_at, marks_at, length_of, table_of, row_start, target, mark}
 use Rattle.table.specs.Open.{row_empty, mark_wrong, count_lines, row_lines, content_lines, lines_of, open_of, why_of}
-use Rattle.table.specs.Bits.{low_bits}
-use Rattle.table.specs.Facts.{facts}
-use Rattle.table.specs.LaidOut.{LaidOut, laid_by, inside, layout_right}
-use Rattle.table.specs.Rows.{RowsRight, row_starts_right}
-use Rattle.table.specs.Targets.{targets_right}
-use Rattle.table.specs.Stages.{stage_accepts, accepts_says}
+use Rattle.table.specs.LaidOut.{LaidOut}
+use Rattle.table.specs.Rows.{RowsRight}
 use Rattle.table.specs.declared.Table.{Table}
 use Rattle.table.specs.declared.refusal.Refusal.{Refusal}
 use Rattle.table.specs.declared.Opened.{Opened}
@@ -28,9 +24,9 @@ pub record WellFormed (b : List ℕ) : Type 0 where
   pub edges_from : 1 ≤ edges_of b
   pub edges_to : edges_of b ≤ 1024
   pub sets_to : sets_of b ≤ 4
-  pub rows_offset_lem : rows_offset b ≡ rows_at
-  pub targets_offset_lem : targets_offset b ≡ targets_at (states_of b)
-  pub marks_offset_lem : marks_offset b ≡ marks_at (states_of b) (edges_of b)
+  pub rows_offset_is : rows_offset b ≡ rows_at
+  pub targets_offset_is : targets_offset b ≡ targets_at (states_of b)
+  pub marks_offset_is : marks_offset b ≡ marks_at (states_of b) (edges_of b)
   pub size : length b ≡ length_of (states_of b) (edges_of b)
   -- the first row start is 0, they never fall, the last is e
   pub rows : RowsRight b
@@ -40,68 +36,3 @@ pub record WellFormed (b : List ℕ) : Type 0 where
   pub no_empty : (s : ℕ) → s < states_of b → ¬ (row_start b s ≡ row_start b (suc s))
   -- bits past start, goal and the m sets are clear
   pub marks_clear : (s : ℕ) → s < states_of b → (i : ℕ) → 2 + sets_of b ≤ i → ¬ HasBit (mark b s) i
-
--- ---- lines 7 and 8
-
-rows_not_empty : (b : List ℕ) → (first_in 0 (states_of b) (row_empty b) ≡ none) ↔ ((s : ℕ) → s < states_of b → ¬ (row_start b s ≡ row_start b (suc s)))
-unfolding row_empty
-rows_not_empty b = simp (first_none, facts) (λ h s l. h s zero-le l, λ h s z l. h s l)
-
-marks_right : (b : List ℕ)
-    → (first_in 0 (states_of b) (mark_wrong b) ≡ none) ↔ ((s : ℕ) → s < states_of b → (i : ℕ) → 2 + sets_of b ≤ i → ¬ HasBit (mark b s) i)
-unfolding mark_wrong
-marks_right b = simp (first_none, facts, low_bits) (λ h s l. h s zero-le l, λ h s z l. h s l)
-
--- ---- the list
-
--- no line is given where the table is well-formed: the parts of the header are named, the others found by their statements, but for the targets
-lines_off : (b : List ℕ) → (first_given (lines_of b) ≡ none) ↔ WellFormed b
-unfolding lines_of count_lines row_lines content_lines
-lines_off b =
-    simp (none_given, test_off, index_off, facts, inside, layout_right, row_starts_right, rows_not_empty, marks_right) (
-      λ (header, (kind, (states, (edges, (sets, (layout, (rows, (targets, rest)))))))).
-          let (targets_in, targets_rise) = (targets_right b rows).0 targets in search targets_in,
-      λ w. (
-        w.header,
-        (
-          w.kind,
-          (
-            (w.states_from, w.states_to),
-            (
-              (w.edges_from, w.edges_to),
-              (
-                (zero-le, w.sets_to),
-                search ((targets_right b w.rows).1 (w.targets_in, w.targets_rise)),
-              ),
-            ),
-          ),
-        ),
-      ),
-    )
-
-pub accepted : (b : List ℕ) → (open_of b ≡ Accepted (table_of b)) ↔ WellFormed b
-unfolding open_of
-accepted b = (λ e. (lines_off b).0 (accepts_says b (lines_of b) (table_of b) e).0, λ w. sym (stage_accepts b (lines_of b) (table_of b) ((lines_off b).1 w) refl))
-
--- an accepted table is the one that the header counts
-pub accepted_table : (b : List ℕ) (t : Table) → open_of b ≡ Accepted t → t ≡ table_of b
-unfolding open_of
-accepted_table b t e = (accepts_says b (lines_of b) t e).1
-
--- so whatever is accepted is well-formed
-pub well_formed : (b : List ℕ) (t : Table) → open_of b ≡ Accepted t → WellFormed b
-well_formed b t e = (accepted b).0 (e ∙ ap Accepted (accepted_table b t e))
-
--- and laid out by its counts
-pub laid : (b : List ℕ) (t : Table) → open_of b ≡ Accepted t → LaidOut b t
-laid b t e =
-    let w = well_formed b t e in
-    laid_by b t (accepted_table b t e) (w.states_from, w.states_to) (w.edges_from, w.edges_to) w.sets_to w.size
-
--- what `open` says settles its answer
-pub open_settled : (b : List ℕ) (x y : Opened) → x ≡ open_of b → y ≡ open_of b → x ≡ y
-open_settled b x y p q = settled p q
-
--- an answer of opening that is a refusal, of which `why` gave r, is the refusal r
-pub why_is : (x : Opened) (r r' : Refusal) → x ≡ Refused r' → r ≡ why_of x → x ≡ Refused r
-why_is x r r' q e = cc

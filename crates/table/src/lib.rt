@@ -1,5 +1,7 @@
 // The table file: its counts and refusals, and reading it. docs/RULES.md, "The table file" and "Refusal list". The rules stand in specs/; opening
 // stands in the crate `opening`.
+#![tactic(auto)]
+
 mod read;
 mod refusal;
 
@@ -7,7 +9,7 @@ pub use read::{fair, has_edge, has_goal, is_start, mark, row_start, target, wide
 pub use refusal::Refusal;
 
 // What an accepted table counts: n states, e edges, m fairness sets.
-#[derive(Drop)]
+#[derive(Clone, Copy)]
 pub struct Table {
     pub states: usize,
     pub edges: usize,
@@ -15,14 +17,14 @@ pub struct Table {
 }
 
 // What opening a table answers.
-#[derive(Drop)]
+#[derive(Clone, Copy)]
 pub enum Opened {
     Accepted(Table),
     Refused(Refusal),
 }
 
 // The first such index, or none.
-#[derive(Drop)]
+#[derive(Clone, Copy)]
 pub enum Found {
     At(usize),
     Nothing,

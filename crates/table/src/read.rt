@@ -16,6 +16,7 @@ pub fn wide(x: u8) -> usize
 }
 
 // The little-endian 32-bit number at index `at`.
+#[tactic(auto, unfolding(crate::specs::Layout::word_at))]
 pub fn word(bytes: &[u8], at: usize) -> usize
     requires { at + 4 ≤ length bytes.now }
     ensures { result ≡ word_at bytes.now at }
@@ -27,6 +28,7 @@ pub fn word(bytes: &[u8], at: usize) -> usize
 }
 
 // Row start s.
+#[tactic(auto, unfolding(crate::specs::Layout::row_start))]
 pub fn row_start(bytes: &[u8], s: usize) -> usize
     requires { RowInside bytes.now s }
     ensures { result ≡ rowStartOf bytes.now s }
@@ -35,6 +37,7 @@ pub fn row_start(bytes: &[u8], s: usize) -> usize
 }
 
 // Target i.
+#[tactic(auto, unfolding(crate::specs::Layout::target))]
 pub fn target(bytes: &[u8], t: Table, i: usize) -> usize
     requires { TargetInside bytes.now t i }
     ensures { result ≡ target_of bytes.now i }
@@ -43,6 +46,7 @@ pub fn target(bytes: &[u8], t: Table, i: usize) -> usize
 }
 
 // The marks of state s.
+#[tactic(auto, unfolding(crate::specs::Layout::mark))]
 pub fn mark(bytes: &[u8], t: Table, s: usize) -> u8
     requires { MarkInside bytes.now t s }
     ensures { result ≡ mark_of bytes.now s }
@@ -52,6 +56,7 @@ pub fn mark(bytes: &[u8], t: Table, s: usize) -> u8
 }
 
 // The state s is a start: bit 0 of its marks.
+#[tactic(auto, unfolding(crate::specs::BlockOf::block_of))]
 pub fn is_start(bytes: &[u8], t: Table, s: usize) -> bool
     requires { MarkInside bytes.now t s }
     ensures { result ≡ (block_of bytes.now).start s }
@@ -60,6 +65,7 @@ pub fn is_start(bytes: &[u8], t: Table, s: usize) -> bool
 }
 
 // The state s has the goal: bit 1 of its marks.
+#[tactic(auto, unfolding(crate::specs::BlockOf::block_of))]
 pub fn has_goal(bytes: &[u8], t: Table, s: usize) -> bool
     requires { MarkInside bytes.now t s }
     ensures { result ≡ (block_of bytes.now).goal s }
@@ -68,6 +74,7 @@ pub fn has_goal(bytes: &[u8], t: Table, s: usize) -> bool
 }
 
 // The fairness sets that hold the state s, a bit each: the marks from bit 2 on.
+#[tactic(auto, unfolding(crate::specs::BlockOf::block_of))]
 pub fn fair(bytes: &[u8], t: Table, s: usize) -> usize
     requires { MarkInside bytes.now t s }
     ensures { result ≡ (block_of bytes.now).fair s }

@@ -3,7 +3,7 @@ ghost use Rattle.std.specs.Prelude.{◌≡◌};
 ghost use Rattle.table.specs.Refusals.{number_of, place_of};
 
 // A line of the list, with its place where the list names one.
-#[derive(Drop)]
+#[derive(Clone, Copy)]
 pub enum Refusal {
     TooShort,
     WrongKind,

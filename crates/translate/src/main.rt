@@ -1,5 +1,7 @@
 // The program translate: reads a table from standard input and writes the translated table to standard output, or the `refused` line.
 // docs/RULES.md, "What the programs print". It only reads and writes; the bytes are made by lines::translate.
+#![tactic(auto)]
+
 ghost use Rattle.std.specs.Prelude.{◌≡◌, length};
 
 fn run(table: &mut [u8; 4449], out: &mut [u8; 65536])

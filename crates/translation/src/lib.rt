@@ -1,4 +1,6 @@
 // The translated table. docs/RULES.md, "Translated table" and line 11 of "Refusal list". The rules stand in specs/.
+#![tactic(auto)]
+
 mod header;
 mod marks;
 mod rows;
@@ -9,7 +11,7 @@ ghost use Rattle.translation.specs.Translated.{TranslateSays};
 use table::{Opened, Refusal};
 
 // What a translation answers: how many bytes were written, or why it is refused.
-#[derive(Drop)]
+#[derive(Clone, Copy)]
 pub enum Answer {
     Written(usize),
     Refused(Refusal),

@@ -1,5 +1,7 @@
 // The program verdict: reads a table from standard input and prints its quote and its least lasso. docs/RULES.md, "What the programs print". It only
 // reads and writes; the text is made by lines::verdict.
+#![tactic(auto)]
+
 ghost use Rattle.std.specs.Prelude.{◌≡◌, length};
 
 fn run(

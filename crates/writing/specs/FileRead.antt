@@ -7,7 +7,7 @@ use mathlib.Core.List.{List, [], append_assoc, append-nil}
 use Rattle.std.proofs.Math.ListN.{length}
 use Rattle.table.specs.Layout.{kind_of, states_of, edges_of, sets_of, rows_offset, targets_offset, marks_offset, rows_at, targets_at, marks_at, length_of, byte_at, word_at, row_start, target, mark}
 use Rattle.table.specs.BlockOf.{block_of}
-use Rattle.table.specs.Sound.{edge_is}
+use Rattle.table.proofs.Sound.{edge_is}
 use Rattle.writing.specs.File.{listed, join_to, start_in, header_of, file_with}
 use Rattle.writing.specs.Listed.{length-listed, get_d_listed}
 use Rattle.writing.specs.Joined.{join_step, join_rise, in_row, row_of}

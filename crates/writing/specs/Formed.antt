@@ -6,8 +6,9 @@ use Rattle.std.proofs.Common.{◌∙◌, arith}
 use Rattle.table.specs.Layout.{states_of, edges_of, sets_of, row_start, mark}
 use Rattle.table.specs.Open.{open_of}
 use Rattle.table.specs.BlockOf.{block_of}
-use Rattle.table.specs.Bits.{low_bits}
-use Rattle.table.specs.WellFormed.{WellFormed, accepted}
+use Rattle.table.proofs.Bits.{low_bits}
+use Rattle.table.specs.WellFormed.{WellFormed}
+use Rattle.table.proofs.WellFormed.{accepted}
 use Rattle.table.specs.declared.Opened.TheVariants.{Accepted}
 use Rattle.writing.specs.File.{join_to, start_in, file_with}
 use Rattle.writing.specs.Joined.{join_step, join_rise}
@@ -85,9 +86,9 @@ module _ (m n : ℕ) (row : ℕ → List ℕ) (marks : ℕ → ℕ) (within : In
         edges_from = some-edge;
         edges_to = omega (arith, edges_is, within.edges_to);
         sets_to = omega (arith, sets_is, within.sets_to);
-        rows_offset_lem = file.rows_offset_read 1 m n row marks fits;
-        targets_offset_lem = file.targets_offset_read 1 m n row marks fits ∙ rw states_is;
-        marks_offset_lem = file.marks_offset_read 1 m n row marks fits ∙ rw (states_is, edges_is);
+        rows_offset_is = file.rows_offset_read 1 m n row marks fits;
+        targets_offset_is = file.targets_offset_read 1 m n row marks fits ∙ rw states_is;
+        marks_offset_is = file.marks_offset_read 1 m n row marks fits ∙ rw (states_is, edges_is);
         size = size ∙ rw (states_is, edges_is);
         rows = record {
           first_row = start_is 0 (omega arith);

@@ -1,4 +1,6 @@
 // Numbers that are written into lent buffers, and read from them. docs/RULES.md, "The table file" and "Buffers".
+#![tactic(auto)]
+
 ghost use Rattle.std.specs.Prelude.{◌≡◌, [], ◌∷◌, ◌+◌, ◌≤◌, ◌<◌, length, get_or};
 ghost use Rattle.table.specs.Layout.{little_endian};
 ghost use Rattle.writing.specs.Placed.{placed};

@@ -1,0 +1,3 @@
+-- The laws, each file over the ones before it. Assumes nothing.
+pub mod Says
+pub mod Laws

@@ -1,0 +1,12 @@
+-- The laws, each file over the ones before it. Assumes nothing.
+pub mod Tests
+pub mod Counts
+pub mod Leads
+pub mod ReadBack
+pub mod Marks
+pub mod Demand3
+pub mod Asks
+pub mod Along
+pub mod Writing
+pub mod Laws
+pub mod Written
