@@ -4,21 +4,35 @@
 
 ghost use Rattle.std.specs.Prelude.{◌≡◌, length};
 
-fn run(table: &mut [u8; 4449], out: &mut [u8; 65536])
+use std::io;
+
+fn run<R: io::Read, W: io::Write, E: io::Write>(
+    input: &mut R,
+    output: &mut W,
+    errors: &mut E,
+    table: &mut [u8; 4449],
+    out: &mut [u8; 65536],
+)
     requires { length out.old ≡ 65536 }
 {
-    let read = streams::read_table(table, b"translate: standard input");
+    let read = streams::read_table(input, errors, table, b"translate: standard input");
     if read.failed {
         return;
     }
     let n = read.count;
     let bytes: &[u8] = table;
     let end = lines::translate(&bytes[..n], out);
-    streams::write_first(out, end, b"translate: standard output");
+    streams::write_first(output, errors, out, end, b"translate: standard output");
 }
 
-fn main() {
+fn main(rt: HostRuntime) {
     let mut table = [0u8; 4449];
     let mut out = [0u8; 65536];
-    run(&mut table, &mut out);
+    run(
+        &mut rt.stdin(),
+        &mut rt.stdout(),
+        &mut rt.stderr(),
+        &mut table,
+        &mut out,
+    );
 }
