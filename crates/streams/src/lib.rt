@@ -60,8 +60,8 @@ fn read_part<R: io::Read>(input: &mut R, part: &mut [u8], reason: &mut io::Error
     }
 }
 
-// Reads until the input ends or the buffer is full. A read that a signal interrupts is made again. A proved loop has to end, so its turns are counted
-// up to a number that no run comes to. The error of the last read that failed is left in `reason`.
+// Reads until the input ends or the buffer is full. A read that a signal interrupts is made again. A proved loop has to end, so it counts its turns
+// down from a number that no run uses up. The error of the last read that failed is left in `reason`.
 fn read_all<R: io::Read>(input: &mut R, table: &mut [u8; 4449], reason: &mut io::Error) -> Read
     ensures counts { IsPrefixLen result.count table.new }
     ensures bytes { Consumes (R.remaining input.old) (R.remaining input.new) (take result.count table.new) }
@@ -69,13 +69,15 @@ fn read_all<R: io::Read>(input: &mut R, table: &mut [u8; 4449], reason: &mut io:
 {
     let bytes: &mut [u8] = table;
     let mut done = 0;
-    for _ in 0..u64::MAX {
+    let mut turns = u64::MAX;
+    while turns > 0 {
         if bytes.len() <= done {
             return Read {
                 count: done,
                 failed: false,
             };
         }
+        turns -= 1;
         match read_part(input, &mut bytes[done..], reason) {
             Part::Bytes(n) => done += n,
             Part::Interrupted => {}
