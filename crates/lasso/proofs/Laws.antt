@@ -8,7 +8,7 @@ use Rattle.table.specs.declared.refusal.Refusal.{Refusal}
 use Rattle.table.specs.declared.Opened.{Opened}
 use Rattle.table.specs.declared.Opened.TheVariants.{Accepted, Refused as TableRefused}
 use Rattle.quote.specs.Quote.{quote_of}
-use Rattle.quote.proofs.Quote.{four_members}
+use Rattle.quote.proofs.QuoteLaws.{four_members}
 use Rattle.quote.specs.declared.Quoted.{Quoted}
 use Rattle.search.specs.declared.Answer.{Answer as Searched}
 use Rattle.search.specs.declared.Answer.TheVariants.{Lasso, Holds, Refused as SearchRefused}

@@ -1,4 +1,4 @@
 -- The laws, each file over the ones before it. Assumes nothing.
 pub mod Sizes
-pub mod Members
-pub mod Quote
+pub mod MembersLaws
+pub mod QuoteLaws

@@ -28,7 +28,7 @@ use Rattle.table.proofs.Recording.{next_in}
 use Rattle.translation.specs.File.{file_of}
 use Rattle.translation.proofs.ReadBack.{edge_read}
 use Rattle.translation.specs.Marks.{bad_in}
-use Rattle.translation.proofs.Marks.{goal_mark, bad_mark, start_slot_lem, start_read}
+use Rattle.translation.proofs.MarksLaws.{goal_mark, bad_mark, start_slot_lem, start_read}
 use Rattle.translation.specs.Demand3.{recording, struck, chosen, TranslatesBy, Translates}
 
 -- ---- the proof

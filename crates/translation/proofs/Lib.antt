@@ -3,7 +3,7 @@ pub mod Tests
 pub mod Counts
 pub mod Leads
 pub mod ReadBack
-pub mod Marks
+pub mod MarksLaws
 pub mod Demand3
 pub mod Asks
 pub mod Along

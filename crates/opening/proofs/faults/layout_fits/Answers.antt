@@ -1,0 +1,11 @@
+-- the code is `layout_fits`, at the words that were read and the counts of the header.
+use Rattle.table.specs.Open.{layout_fits}
+use borrow.Author.Rules.{rules}
+use Rattle.opening.proofs.faults.layout_fits.Goals as goal
+
+pub returns : goal.returns
+unfolding layout_fits
+returns c =
+    let p = c.requires.states_value in
+    rw (c.word-3.ensures, c.word-2.ensures, c.word.ensures, p.0, p.1)
+
