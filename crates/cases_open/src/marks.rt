@@ -34,10 +34,8 @@ fn marked(rt: &impl Print, m: usize, s: usize, bit: usize) -> io::Result<()> {
 
 // Each of the eight bits.
 fn each_bit(rt: &impl Print, m: usize, s: usize) -> io::Result<()> {
-    let mut bit = 0;
-    while bit < 8 {
+    for bit in 0..8 {
         marked(rt, m, s, bit)?;
-        bit += 1;
     }
     Ok(())
 }

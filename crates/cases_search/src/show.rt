@@ -19,13 +19,8 @@ fn word(rt: &impl Print, x: u32) -> io::Result<()> {
 
 // Writes the words from index `from` on and below `to`.
 fn words(rt: &impl Print, w: &[u32], from: usize, to: usize) -> io::Result<()> {
-    let mut i = from;
-    while i < w.len() {
-        if to <= i {
-            return Ok(());
-        }
-        word(rt, w[i])?;
-        i += 1;
+    for x in w.iter().take(to).skip(from) {
+        word(rt, *x)?;
     }
     Ok(())
 }
