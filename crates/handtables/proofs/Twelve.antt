@@ -123,6 +123,7 @@ row_holds r e =
 
 all_hold : (rs : List HandRow) → all_fit rs ≡ true → (r : HandRow) → Memᴰ r rs → RowHolds r
 unfolding all_fit
+all_hold [] e r m = elim m [ ]
 all_hold (s ∷ rs) e r (Memᴰ.head p) = rw p (row_holds s (both (fits s) _ e).0)
 all_hold (s ∷ rs) e r (Memᴰ.tail m) = all_hold rs (both (fits s) _ e).1 r m
 

@@ -2,7 +2,7 @@
 use Rattle.std.specs.Prelude.{◌≡◌, refl, Bool, true, false, ◌↔◌, List, [], ◌∷◌, map, ℕ, zero, suc, ◌<◌, length}
 use Rattle.std.proofs.Common.{sym, ap, ap₂, subst, subst₂, ◌∙◌, arith, ext_get_or}
 use mathlib.Core.Logic.Iff
-use Rattle.std.proofs.lemmas.Simd.{map_map}
+use Rattle.std.proofs.lemmas.Simd.{map-map}
 use Rattle.std.proofs.lemmas.List.{length-map}
 use Rattle.recorder.specs.Block.{Block, Sound}
 use Rattle.recorder.specs.Flag.{Flag, live_flag, LassoBy}
@@ -108,7 +108,7 @@ module _ (R : Flag) (b : List ℕ) (f : WellFormed b) where
     }
 
     struck_is : strike (map (at B) ps) ≡ struck b ps
-    struck_is = map_map (λ (r : Record). r.s) (at B) ps
+    struck_is = map-map (λ (r : Record). r.s) (at B) ps
 
   -- the file by a flag is a translation by that flag and its lassos
   pub translates : TranslatesBy R b (LassoBy R (block_of b)) F

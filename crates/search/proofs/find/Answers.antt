@@ -21,23 +21,22 @@ pub queue_starts-queued-requires : goal.queue_starts-queued-requires
 queue_starts-queued-requires c =
     let asks : FindAsks c.args.bytes.now c.args.t
     c.args.slots c.args.work.now c.args.report.now = c.requires in
-    let origins : c.clear.new.0 ≡ cleared c.args.slots c.args.work.now = c.clear.ensures in
+    let origins : c.clear.new.words ≡ cleared c.args.slots c.args.work.now = c.clear.ensures in
     starts_asked _ asks origins
 
 pub scan-seen-requires : goal.scan-seen-requires
 scan-seen-requires c =
     let asks : FindAsks c.args.bytes.now c.args.t
     c.args.slots c.args.work.now c.args.report.now = c.requires in
-    let origins : c.clear.new.0 ≡ cleared c.args.slots c.args.work.now = c.clear.ensures in
+    let origins : c.clear.new.words ≡ cleared c.args.slots c.args.work.now = c.clear.ensures in
     scan_asked (starts_asked _ asks origins) c.queue_starts-queued.ensures
 
 pub returns-in_default : goal.returns-in_default
 returns-in_default c =
     let asks : FindAsks c.args.bytes.now c.args.t
     c.args.slots c.args.work.now c.args.report.now = c.requires in
-    let origins : c.clear.new.0 ≡ cleared c.args.slots c.args.work.now = c.clear.ensures in
-    let rest : let k = c in
-    drop (2 * k.before.before.before.before.before.args.slots) c.scan-seen.new.1.1.0 ≡ drop (2 * k.before.before.before.before.before.args.slots) k.before.before.before.before.before.args.work.now = let k = c in rest_stays _ _ _ _ (origins k) c.queue-starts.ensures c.scan-seen.ensures in
+    let origins : c.clear.new.words ≡ cleared c.args.slots c.args.work.now = c.clear.ensures in
+    let rest : drop (2 * c.args.slots) c.scan-seen.new.work ≡ drop (2 * c.args.slots) c.args.work.now = rest_stays _ _ _ _ origins c.queue_starts-queued.ensures c.scan-seen.ensures in
     let a = asks in (
       says_holds _ a.formed (seen_as c.in_default.is c.scan-seen.ensures).seen,
       clears _ _ a.slots_are rest c.clear-in_default.ensures,
@@ -45,18 +44,18 @@ returns-in_default c =
 
 pub path_length-len-requires : goal.path_length-len-requires
 path_length-len-requires c =
-    let stopped : Stopped live_flag c.before.before.before.before.before.args.bytes.now c.before.before.before.before.before.args.slots
-    c.scan.new.1.1.0 c.in-Bad.head c.in-Bad.slot = (seen_as c.in-Bad.is c.scan.ensures).seen in
+    let stopped : Stopped live_flag c.args.bytes.now c.args.slots
+    c.scan-seen.new.work c.in-Bad.head c.in-Bad.slot = (seen_as c.in-Bad.is c.scan-seen.ensures).seen in
     stopped_climbs stopped
 
 pub write_path-unsaved-requires : goal.write_path-unsaved-requires
 write_path-unsaved-requires c =
     let asks : FindAsks c.args.bytes.now c.args.t
     c.args.slots c.args.work.now c.args.report.now = c.requires in
-    let stopped : Stopped live_flag c.before.before.before.before.before.args.bytes.now c.before.before.before.before.before.args.slots
-    c.scan.new.1.1.0 c.in-Bad.head c.in-Bad.slot = (seen_as c.in-Bad.is c.scan.ensures).seen in
-    let length-is : c.path_length-len.result ≡ length (path_by (label_of c.before.before.before.before.before.args.t.states c.before.before.before.before.before.args.t.sets) c.before.before.before.before.before.args.slots c.scan.new.1.1.0 c.seen-1.given.0.0) = c.path_length-len.ensures _ in
-    let length_to : c.path_length-len.result ≤ c.before.before.before.before.before.args.slots = le_as length-is (path_to _ _ _ _ (stopped_climbs stopped)) in
+    let stopped : Stopped live_flag c.args.bytes.now c.args.slots
+    c.scan-seen.new.work c.in-Bad.head c.in-Bad.slot = (seen_as c.in-Bad.is c.scan-seen.ensures).seen in
+    let length-is : c.path_length-len.result ≡ length (path_by (label_of c.args.t.states c.args.t.sets) c.args.slots c.scan-seen.new.work c.in-Bad.head) = c.path_length-len.ensures _ in
+    let length_to : c.path_length-len.result ≤ c.args.slots = le_as length-is (path_to _ _ _ _ (stopped_climbs stopped)) in
     let a = asks in
     record {
       climbs = stopped_climbs stopped;
@@ -74,11 +73,11 @@ pub overflow_sub-result : goal.overflow_sub-result
 overflow_sub-result c =
     let asks : FindAsks c.args.bytes.now c.args.t
     c.args.slots c.args.work.now c.args.report.now = c.requires in
-    let stopped : Stopped live_flag c.before.before.before.before.before.args.bytes.now c.before.before.before.before.before.args.slots
-    c.scan.new.1.1.0 c.in-Bad.head c.in-Bad.slot = (seen_as c.in-Bad.is c.scan.ensures).seen in
-    let told : Told live_flag c.before.before.before.before.before.args.bytes.now
-    (path_by (label_of c.before.before.before.before.before.args.t.states c.before.before.before.before.before.args.t.sets) c.before.before.before.before.before.args.slots c.scan.new.1.1.0 c.in-Bad.head) = let a = asks in stopped_tells live_flag _ _ _ _ _ _ _ a.formed a.laid.states_are a.laid.sets_are stopped in
-    let length-is : c.path_length-len.result ≡ length (path_by (label_of c.before.before.before.before.before.args.t.states c.before.before.before.before.before.args.t.sets) c.before.before.before.before.before.args.slots c.scan.new.1.1.0 c.seen-1.given.0.0) = c.path_length-len.ensures _ in
+    let stopped : Stopped live_flag c.args.bytes.now c.args.slots
+    c.scan-seen.new.work c.in-Bad.head c.in-Bad.slot = (seen_as c.in-Bad.is c.scan-seen.ensures).seen in
+    let told : Told live_flag c.args.bytes.now
+    (path_by (label_of c.args.t.states c.args.t.sets) c.args.slots c.scan-seen.new.work c.in-Bad.head) = let a = asks in stopped_tells live_flag _ _ _ _ _ _ _ a.formed a.laid.states_are a.laid.sets_are stopped in
+    let length-is : c.path_length-len.result ≡ length (path_by (label_of c.args.t.states c.args.t.sets) c.args.slots c.scan-seen.new.work c.in-Bad.head) = c.path_length-len.ensures _ in
     let t = told in
     omega (arith, length-is, t.reports.size, t.least.is.loop.here)
 
@@ -86,26 +85,25 @@ pub overflow_sub-result-2 : goal.overflow_sub-result-2
 overflow_sub-result-2 c =
     let asks : FindAsks c.args.bytes.now c.args.t
     c.args.slots c.args.work.now c.args.report.now = c.requires in
-    let stopped : Stopped live_flag c.before.before.before.before.before.args.bytes.now c.before.before.before.before.before.args.slots
-    c.scan.new.1.1.0 c.in-Bad.head c.in-Bad.slot = (seen_as c.in-Bad.is c.scan.ensures).seen in
-    let told : Told live_flag c.before.before.before.before.before.args.bytes.now
-    (path_by (label_of c.before.before.before.before.before.args.t.states c.before.before.before.before.before.args.t.sets) c.before.before.before.before.before.args.slots c.scan.new.1.1.0 c.in-Bad.head) = let a = asks in stopped_tells live_flag _ _ _ _ _ _ _ a.formed a.laid.states_are a.laid.sets_are stopped in
-    omega (arith, c.write_path-unsaved.ensures.0, told.reports.place)
+    let stopped : Stopped live_flag c.args.bytes.now c.args.slots
+    c.scan-seen.new.work c.in-Bad.head c.in-Bad.slot = (seen_as c.in-Bad.is c.scan-seen.ensures).seen in
+    let told : Told live_flag c.args.bytes.now
+    (path_by (label_of c.args.t.states c.args.t.sets) c.args.slots c.scan-seen.new.work c.in-Bad.head) = let a = asks in stopped_tells live_flag _ _ _ _ _ _ _ a.formed a.laid.states_are a.laid.sets_are stopped in
+    omega (arith, c.write_path-unsaved.ensures.value, told.reports.place)
 
 pub returns : goal.returns
 returns c =
     let asks : FindAsks c.args.bytes.now c.args.t
     c.args.slots c.args.work.now c.args.report.now = c.requires in
-    let origins : c.clear.new.0 ≡ cleared c.args.slots c.args.work.now = c.clear.ensures in
-    let rest : let k = c in
-    drop (2 * k.before.before.before.before.before.args.slots) c.scan-seen.new.1.1.0 ≡ drop (2 * k.before.before.before.before.before.args.slots) k.before.before.before.before.before.args.work.now = let k = c in rest_stays _ _ _ _ (origins k) c.queue-starts.ensures c.scan-seen.ensures in
-    let stopped : Stopped live_flag c.before.before.before.before.before.args.bytes.now c.before.before.before.before.before.args.slots
-    c.scan.new.1.1.0 c.in-Bad.head c.in-Bad.slot = (seen_as c.in-Bad.is c.scan.ensures).seen in
-    let told : Told live_flag c.before.before.before.before.before.args.bytes.now
-    (path_by (label_of c.before.before.before.before.before.args.t.states c.before.before.before.before.before.args.t.sets) c.before.before.before.before.before.args.slots c.scan.new.1.1.0 c.in-Bad.head) = let a = asks in stopped_tells live_flag _ _ _ _ _ _ _ a.formed a.laid.states_are a.laid.sets_are stopped in
-    let length-is : c.path_length-len.result ≡ length (path_by (label_of c.before.before.before.before.before.args.t.states c.before.before.before.before.before.args.t.sets) c.before.before.before.before.before.args.slots c.scan.new.1.1.0 c.seen-1.given.0.0) = c.path_length-len.ensures _ in
+    let origins : c.clear.new.words ≡ cleared c.args.slots c.args.work.now = c.clear.ensures in
+    let rest : drop (2 * c.args.slots) c.scan-seen.new.work ≡ drop (2 * c.args.slots) c.args.work.now = rest_stays _ _ _ _ origins c.queue_starts-queued.ensures c.scan-seen.ensures in
+    let stopped : Stopped live_flag c.args.bytes.now c.args.slots
+    c.scan-seen.new.work c.in-Bad.head c.in-Bad.slot = (seen_as c.in-Bad.is c.scan-seen.ensures).seen in
+    let told : Told live_flag c.args.bytes.now
+    (path_by (label_of c.args.t.states c.args.t.sets) c.args.slots c.scan-seen.new.work c.in-Bad.head) = let a = asks in stopped_tells live_flag _ _ _ _ _ _ _ a.formed a.laid.states_are a.laid.sets_are stopped in
+    let length-is : c.path_length-len.result ≡ length (path_by (label_of c.args.t.states c.args.t.sets) c.args.slots c.scan-seen.new.work c.in-Bad.head) = c.path_length-len.ensures _ in
     (
-      says_lasso _ _ told length-is c.write_path-unsaved.ensures.0 c.write_path-unsaved.ensures.1,
+      says_lasso _ _ told length-is c.write_path-unsaved.ensures.value c.write_path-unsaved.ensures.report_after,
       clears _ _ asks.slots_are rest c.clear-2.ensures,
     )
 

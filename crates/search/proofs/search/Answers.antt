@@ -15,20 +15,20 @@ use Rattle.search.specs.Laws.{table_refused, short_workspace, short_report, find
 use Rattle.search.proofs.search.Goals as goal
 
 pub returns-in_default : goal.returns-in_default
-returns-in_default c = table_refused _ _ _ _ (sym c.«open».ensures ∙ why_is _ _ _ c.in_default.is c.why.ensures)
+returns-in_default c = table_refused _ _ _ _ (sym c.open-answer.ensures ∙ why_is _ _ _ c.in_default.is c.why.ensures)
 
 pub slot_count-slots-requires : goal.slot_count-slots-requires
 slot_count-slots-requires c =
     let b = c.args.bytes.now in
     let t : Table = c.in-Accepted.t in
-    let opened : open_of b ≡ Accepted t = sym c.«open».ensures ∙ c.in-Accepted.is in
+    let opened : open_of b ≡ Accepted t = sym c.open-answer.ensures ∙ c.in-Accepted.is in
     let l = laid _ _ opened in (l.states_to, omega (arith, l.sets_to))
 
 pub overflow_mul-slots : goal.overflow_mul-slots
 overflow_mul-slots c =
     let b = c.args.bytes.now in
     let t : Table = c.in-Accepted.t in
-    let opened : open_of b ≡ Accepted t = sym c.«open».ensures ∙ c.in-Accepted.is in
+    let opened : open_of b ≡ Accepted t = sym c.open-answer.ensures ∙ c.in-Accepted.is in
     let slots_are : c.slot_count-slots.result ≡ slots_of b = let l = laid _ _ opened in c.slot_count-slots.ensures ∙ ap₂ slot_count l.states_are l.sets_are in
     omega (arith, slots_are, slots_few _ (well_formed _ _ opened))
 
@@ -36,7 +36,7 @@ pub returns-then-work-slots : goal.returns-then-work-slots
 returns-then-work-slots c =
     let b = c.args.bytes.now in
     let t : Table = c.in-Accepted.t in
-    let opened : open_of b ≡ Accepted t = sym c.«open».ensures ∙ c.in-Accepted.is in
+    let opened : open_of b ≡ Accepted t = sym c.open-answer.ensures ∙ c.in-Accepted.is in
     let slots_are : c.slot_count-slots.result ≡ slots_of b = let l = laid _ _ opened in c.slot_count-slots.ensures ∙ ap₂ slot_count l.states_are l.sets_are in
     short_workspace _ _ _ _ opened (omega (arith, c.if-work-slots.true, slots_are))
 
@@ -44,7 +44,7 @@ pub returns-then-report-slots : goal.returns-then-report-slots
 returns-then-report-slots c =
     let b = c.args.bytes.now in
     let t : Table = c.in-Accepted.t in
-    let opened : open_of b ≡ Accepted t = sym c.«open».ensures ∙ c.in-Accepted.is in
+    let opened : open_of b ≡ Accepted t = sym c.open-answer.ensures ∙ c.in-Accepted.is in
     let slots_are : c.slot_count-slots.result ≡ slots_of b = let l = laid _ _ opened in c.slot_count-slots.ensures ∙ ap₂ slot_count l.states_are l.sets_are in
     short_report _ _ _ _ opened (omega (arith, c.if-work-slots.false, slots_are)) (omega (arith, c.if-report-slots.true, slots_are))
 
@@ -52,7 +52,7 @@ pub find-requires : goal.find-requires
 find-requires c =
     let b = c.args.bytes.now in
     let t : Table = c.in-Accepted.t in
-    let opened : open_of b ≡ Accepted t = sym c.«open».ensures ∙ c.in-Accepted.is in
+    let opened : open_of b ≡ Accepted t = sym c.open-answer.ensures ∙ c.in-Accepted.is in
     let slots_are : c.slot_count-slots.result ≡ slots_of b = let l = laid _ _ opened in c.slot_count-slots.ensures ∙ ap₂ slot_count l.states_are l.sets_are in
     record {
       formed = well_formed _ _ opened;
@@ -66,7 +66,7 @@ pub returns : goal.returns
 returns c =
     let b = c.args.bytes.now in
     let t : Table = c.in-Accepted.t in
-    let opened : open_of b ≡ Accepted t = sym c.«open».ensures ∙ c.in-Accepted.is in
+    let opened : open_of b ≡ Accepted t = sym c.open-answer.ensures ∙ c.in-Accepted.is in
     let slots_are : c.slot_count-slots.result ≡ slots_of b = let l = laid _ _ opened in c.slot_count-slots.ensures ∙ ap₂ slot_count l.states_are l.sets_are in
     finds _ _ _ _ opened (omega (arith, c.if-work-slots.false, slots_are)) (omega (arith, c.if-report-slots.false, slots_are)) _ _ _ c.find.ensures
 

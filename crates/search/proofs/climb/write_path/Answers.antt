@@ -125,16 +125,14 @@ at-origin-requires c =
     let l = c.loop-slots in
     omega (arith, k.below l.i (omega arith), c.at-x.ensures)
 
--- NO NEED same-length
--- simp length-set c.before.before.before.before.before.loop.invariant.written.same_length
-
 pub returns-then-origin-lt2 : goal.returns-then-origin-lt2
 returns-then-origin-lt2 c =
     let l = c.loop-slots in
     let p = c.requires in
+    let both = ends p.climbs p.len_value l.invariant c.at-x.ensures c.of_slot-r.ensures c.at-origin.ensures c.if-origin-lt2.true in
     record {
-      value = ends p.climbs p.len_value l.invariant c.at-x.ensures c.of_slot-r.ensures c.at-origin.ensures c.if-origin-lt2.true.0;
-      report_after = ends p.climbs p.len_value l.invariant c.at-x.ensures c.of_slot-r.ensures c.at-origin.ensures c.if-origin-lt2.true.1;
+      value = both.0;
+      report_after = both.1;
     }
 
 pub loop-slots-smaller : goal.loop-slots-smaller

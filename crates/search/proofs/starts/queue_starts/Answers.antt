@@ -16,19 +16,6 @@ use Rattle.search.specs.Starts.{StartsAsk, Starting, starting_begins, start_asks
 use Rattle.search.proofs.starts.queue_starts.Invariants.{Queueing}
 use Rattle.search.proofs.starts.queue_starts.Goals as goal
 
--- ---- in the loop
-abbrev InLoop : Type 0
-InLoop = tie.In-loop invariant-loop decreases-loop
-
-abbrev bytes-at : InLoop → List ℕ
-bytes-at c = c.before.before.before.before.args.bytes.now
-
-asks : (c : InLoop) → StartsAsk (bytes-at c) c.before.before.before.before.args.t c.before.before.before.before.args.slots c.before.before.before.before.args.work.now
-asks c = c.before.before.before.before.requires
-
-s_in : (c : InLoop) → c.before.loop.s < states_of (bytes-at c)
-s_in c = omega (arith, c.loop-test.true, (asks c).laid.states_are)
-
 pub loop-s-init : goal.loop-s-init
 loop-s-init c =
     let p = c.requires in
@@ -43,38 +30,49 @@ start-start-requires c = tt
 
 pub slot-x-requires : goal.slot-x-requires
 slot-x-requires c =
-    let start_is : c.start-start.result ≡ start_of live_flag (block_of (bytes-at c)) c.loop-s.s = c.start-start.ensures (block_of (bytes-at c)) (block_states (bytes-at c) ∙ sym (asks c).laid.states_are) in
-    made_range live_flag _ _ (asks c).laid _ _ start_is c.loop-s-test.true
+    let bytes-at = c.args.bytes.now in
+    let asks : StartsAsk bytes-at c.args.t c.args.slots c.args.work.now = c.requires in
+    let start_is : c.start-start.result ≡ start_of live_flag (block_of bytes-at) c.loop-s.s = c.start-start.ensures (block_of bytes-at) (block_states bytes-at ∙ sym asks.laid.states_are) in
+    made_range live_flag _ _ asks.laid _ _ start_is c.loop-s-test.true
 
 pub is_start-requires : goal.is_start-requires
-is_start-requires c = mark_inside _ _ (asks c).laid _ c.loop-s-test.true
+is_start-requires c =
+    let bytes-at = c.args.bytes.now in
+    let asks : StartsAsk bytes-at c.args.t c.args.slots c.args.work.now = c.requires in
+    mark_inside _ _ asks.laid _ c.loop-s-test.true
 
 pub meet_if-tail-requires : goal.meet_if-tail-requires
 meet_if-tail-requires c =
-    let start_is : c.start-start.result ≡ start_of live_flag (block_of (bytes-at c)) c.loop-s.s = c.start-start.ensures (block_of (bytes-at c)) (block_states (bytes-at c) ∙ sym (asks c).laid.states_are) in
-    let slot_is : c.slot-x.result ≡ start_slot live_flag (bytes-at c) c.loop-s.s = made_slot live_flag _ _ (asks c).laid _ _ start_is _ c.slot-x.ensures in
-    asks_as (asks c).slots_are slot_is (start_asks live_flag _ (asks c).formed _ _ _ c.loop-s.invariant.starting (s_in c))
+    let bytes-at = c.args.bytes.now in
+    let asks : StartsAsk bytes-at c.args.t c.args.slots c.args.work.now = c.requires in
+    let s_in : c.loop-s.s < states_of bytes-at = omega (arith, c.loop-s-test.true, asks.laid.states_are) in
+    let start_is : c.start-start.result ≡ start_of live_flag (block_of bytes-at) c.loop-s.s = c.start-start.ensures (block_of bytes-at) (block_states bytes-at ∙ sym asks.laid.states_are) in
+    let slot_is : c.slot-x.result ≡ start_slot live_flag bytes-at c.loop-s.s = made_slot live_flag _ _ asks.laid _ _ start_is _ c.slot-x.ensures in
+    asks_as asks.slots_are slot_is (start_asks live_flag _ asks.formed _ _ _ c.loop-s.invariant.starting s_in)
 
 pub overflow_add-s : goal.overflow_add-s
-overflow_add-s c = omega (arith, c.loop-s-test.true, (asks c).laid.states_to)
+overflow_add-s c =
+    let bytes-at = c.args.bytes.now in
+    let asks : StartsAsk bytes-at c.args.t c.args.slots c.args.work.now = c.requires in
+    omega (arith, c.loop-s-test.true, asks.laid.states_to)
 
 pub loop-s-smaller : goal.loop-s-smaller
 loop-s-smaller c = omega (arith, c.loop-s-test.true)
 
 pub loop-s-preserved : goal.loop-s-preserved
 loop-s-preserved c =
-    let start_is : c.start-start.result ≡ start_of live_flag (block_of (bytes-at c)) c.loop-s.s = c.start-start.ensures (block_of (bytes-at c)) (block_states (bytes-at c) ∙ sym (asks c).laid.states_are) in
-    let slot_is : c.slot-x.result ≡ start_slot live_flag (bytes-at c) c.loop-s.s = made_slot live_flag _ _ (asks c).laid _ _ start_is _ c.slot-x.ensures in
+    let bytes-at = c.args.bytes.now in
+    let asks : StartsAsk bytes-at c.args.t c.args.slots c.args.work.now = c.requires in
+    let s_in : c.loop-s.s < states_of bytes-at = omega (arith, c.loop-s-test.true, asks.laid.states_are) in
+    let start_is : c.start-start.result ≡ start_of live_flag (block_of bytes-at) c.loop-s.s = c.start-start.ensures (block_of bytes-at) (block_states bytes-at ∙ sym asks.laid.states_are) in
+    let slot_is : c.slot-x.result ≡ start_slot live_flag bytes-at c.loop-s.s = made_slot live_flag _ _ asks.laid _ _ start_is _ c.slot-x.ensures in
     let v = c.loop-s.invariant in
-    let m = if_says_as c.is_start.ensures (asks c).slots_are slot_is c.meet_if-tail.ensures in
+    let m = if_says_as c.is_start.ensures asks.slots_are slot_is c.meet_if-tail.ensures in
     record {
-      starting = starting_on live_flag _ (asks c).formed _ _ _ v.starting _ _ (s_in c) m;
-      same = rest_trans v.same (meets_if (start_asks live_flag _ (asks c).formed _ _ _ v.starting (s_in c)) m).same;
-      to = omega (arith, s_in c);
+      starting = starting_on live_flag _ asks.formed _ _ _ v.starting _ _ s_in m;
+      same = rest_trans v.same (meets_if (start_asks live_flag _ asks.formed _ _ _ v.starting s_in) m).same;
+      to = omega (arith, s_in);
     }
-
--- NO NEED same-length
--- c.before.loop.invariant.same.size
 
 pub returns : goal.returns
 returns c =

@@ -1,0 +1,29 @@
+-- a letter below 8, or `none`.
+use native.Mathlib.Omega.{arith}
+use Rattle.lines.proofs.Puts.{puts_on}
+use Rattle.lines.proofs.Laws.{puts_letter, puts_no_board}
+use borrow.Author.Rules.{rules}
+use Rattle.lines.proofs.lines.board_line.Goals as goal
+
+pub returns-then-board-lt8 : goal.returns-then-board-lt8
+returns-then-board-lt8 c =
+    let first = c.put_text-end.ensures in
+    let p = c.put_text.ensures in
+    let e = first.ends in
+    let f = p.ends in
+    record {
+      puts = puts_letter c.args.board (omega arith) (puts_on first p);
+      upper_bound = omega arith;
+    }
+
+pub returns-else-board-lt8 : goal.returns-else-board-lt8
+returns-else-board-lt8 c =
+    let first = c.put_text-end.ensures in
+    let p = c.put_text-else-board-lt8.ensures in
+    let e = first.ends in
+    let f = p.ends in
+    record {
+      puts = puts_no_board c.args.board (omega arith) (puts_on first p);
+      upper_bound = omega arith;
+    }
+
