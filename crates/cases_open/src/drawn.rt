@@ -18,13 +18,10 @@ fn wide(x: u8) -> usize {
 // How many bytes of the drawing are from `least` to `most`.
 fn count(drawing: &[u8], least: u8, most: u8) -> usize {
     let mut found = 0;
-    let mut k = 0;
-    while k < drawing.len() {
-        let c = drawing[k];
-        if (least <= c) & (c <= most) {
+    for c in drawing {
+        if (least <= *c) & (*c <= most) {
             found = builder::plus(found, 1);
         }
-        k += 1;
     }
     found
 }
@@ -77,10 +74,8 @@ pub(crate) fn draw(file: &mut File, drawing: &[u8], m: usize) -> usize {
         marks: 0,
         next: 0,
     };
-    let mut k = 0;
-    while k < drawing.len() {
-        pen = put_part(file, n, e, pen, drawing[k]);
-        k += 1;
+    for c in drawing {
+        pen = put_part(file, n, e, pen, *c);
     }
     builder::put(file, builder::row_start_at(n), e);
     builder::length(n, e)

@@ -14,11 +14,13 @@ mod spread;
 mod twelve;
 mod two;
 
-fn main() {
-    heads::run();
-    rows::run();
-    marks::run();
-    two::run();
-    twelve::run();
-    boards::run();
+use std::io;
+
+fn main(rt: HostRuntime) -> io::Result<()> {
+    heads::run(&rt)?;
+    rows::run(&rt)?;
+    marks::run(&rt)?;
+    two::run(&rt)?;
+    twelve::run(&rt)?;
+    boards::run(&rt)
 }

@@ -1,77 +1,79 @@
 // One line a case: its name, a colon, and what the library answers.
 use super::builder::File;
-use libc::STDOUT_FILENO;
 use quote::Sheet;
+use std::io;
 use table::Opened;
 
-pub(crate) fn text(words: &[u8]) {
-    io::write_all(STDOUT_FILENO, words);
+pub(crate) fn text(rt: &impl Print, words: &str) -> io::Result<()> {
+    rt.print(words)
 }
 
-pub(crate) fn number(x: usize) {
-    text(b" ");
-    io::print_decimal(STDOUT_FILENO, x as u64);
+pub(crate) fn number(rt: &impl Print, x: usize) -> io::Result<()> {
+    print!(rt; " {x}")
 }
 
-fn answer(opened: Opened) {
+fn answer(rt: &impl Print, opened: Opened) -> io::Result<()> {
     match opened {
         Opened::Accepted(t) => {
-            text(b" accepted");
-            number(t.states);
-            number(t.edges);
-            number(t.sets);
+            text(rt, " accepted")?;
+            number(rt, t.states)?;
+            number(rt, t.edges)?;
+            number(rt, t.sets)?;
         }
         Opened::Refused(r) => {
-            text(b" refused");
-            number(r.number() as usize);
-            number(r.place());
+            text(rt, " refused")?;
+            number(rt, r.number() as usize)?;
+            number(rt, r.place())?;
         }
     }
+    Ok(())
 }
 
-fn sheet(s: Sheet) {
+fn sheet(rt: &impl Print, s: Sheet) -> io::Result<()> {
     let members = s.members;
-    text(b", sheet");
-    number(s.slots);
-    number(s.edges);
-    number(s.bytes);
-    text(b", board");
-    number(s.board);
-    text(b", members");
-    number(members[0]);
-    number(members[1]);
-    number(members[2]);
-    number(members[3]);
+    text(rt, ", sheet")?;
+    number(rt, s.slots)?;
+    number(rt, s.edges)?;
+    number(rt, s.bytes)?;
+    text(rt, ", board")?;
+    number(rt, s.board)?;
+    text(rt, ", members")?;
+    number(rt, members[0])?;
+    number(rt, members[1])?;
+    number(rt, members[2])?;
+    number(rt, members[3])
 }
 
 // What opening the first `len` bytes answers.
-fn open_first(bytes: &[u8], len: usize) {
+fn open_first(rt: &impl Print, bytes: &[u8], len: usize) -> io::Result<()> {
     if len <= bytes.len() {
-        answer(opening::open(&bytes[..len]));
+        answer(rt, opening::open(&bytes[..len]))?;
     }
+    Ok(())
 }
 
 // The quote of the first `len` bytes.
-fn quote_first(bytes: &[u8], len: usize) {
+fn quote_first(rt: &impl Print, bytes: &[u8], len: usize) -> io::Result<()> {
     if len <= bytes.len() {
         let q = quote::quote(&bytes[..len]);
         let opened = q.answer;
         let s = q.sheet;
-        answer(opened);
-        sheet(s);
+        answer(rt, opened)?;
+        sheet(rt, s)?;
     }
+    Ok(())
 }
 
 // The rest of a line that has its name: what opening the table answers.
-pub(crate) fn opened(file: &File, len: usize) {
-    text(b":");
-    open_first(file, len);
-    text(b"\n");
+pub(crate) fn opened(rt: &impl Print, file: &File, len: usize) -> io::Result<()> {
+    text(rt, ":")?;
+    open_first(rt, file, len)?;
+    text(rt, "\n")
 }
 
 // The rest of a line that has its name: the quote of the table.
-pub(crate) fn quoted(file: &File, len: usize) {
-    text(b":");
-    quote_first(file, len);
-    text(b"\n");
+pub(crate) fn quoted(rt: &impl Print, file: &File, len: usize) -> io::Result<()> {
+    text(rt, ":")?;
+    quote_first(rt, file, len)?;
+    text(rt, "\n")
 }

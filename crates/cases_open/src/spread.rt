@@ -37,10 +37,8 @@ fn marks(m: usize, s: usize) -> usize {
 
 // Puts targets 0, 1, 2 and so on, `count` of them, as those from index `from` on.
 fn put_targets(file: &mut File, n: usize, from: usize, count: usize) {
-    let mut i = 0;
-    while i < count {
+    for i in 0..count {
         builder::put(file, builder::target_at(n, builder::plus(from, i)), i);
-        i += 1;
     }
 }
 
@@ -48,14 +46,12 @@ fn put_targets(file: &mut File, n: usize, from: usize, count: usize) {
 pub(crate) fn spread(file: &mut File, n: usize, e: usize, m: usize) -> usize {
     builder::put_header(file, n, e, m);
     let mut from = 0;
-    let mut s = 0;
-    while s < n {
+    for s in 0..n {
         let count = share(n, e, s);
         builder::put_byte(file, builder::mark_at(n, e, s), marks(m, s));
         put_targets(file, n, from, count);
         from = builder::plus(from, count);
-        s += 1;
-        builder::put(file, builder::row_start_at(s), from);
+        builder::put(file, builder::row_start_at(s + 1), from);
     }
     builder::length(n, e)
 }

@@ -1,9 +1,10 @@
 // What the buffers have before a search is of no account to its answer.
 use super::room::over;
 use super::{pattern, show};
+use std::io;
 
 // Three searches in the same buffers. The second finds no lasso, and leaves the report of the first.
-fn one_after_another() {
+fn one_after_another(rt: &impl Print) -> io::Result<()> {
     let b = samples::B;
     let i = samples::I;
     let j = samples::J;
@@ -12,13 +13,13 @@ fn one_after_another() {
     let p = pattern::rising();
     pattern::fill(&mut work, p);
     pattern::fill(&mut report, p);
-    show::line(b"j first", &j, &mut work, &mut report, p, true);
-    show::line(b"b second", &b, &mut work, &mut report, p, true);
-    show::line(b"i third", &i, &mut work, &mut report, p, true);
+    show::line(rt, "j first", &j, &mut work, &mut report, p, true)?;
+    show::line(rt, "b second", &b, &mut work, &mut report, p, true)?;
+    show::line(rt, "i third", &i, &mut work, &mut report, p, true)
 }
 
 // Each search needs more words than the one before it.
-fn longer_each_time() {
+fn longer_each_time(rt: &impl Print) -> io::Result<()> {
     let c = samples::C;
     let e = samples::E;
     let g = samples::G;
@@ -27,39 +28,39 @@ fn longer_each_time() {
     let p = pattern::rising();
     pattern::fill(&mut work, p);
     pattern::fill(&mut report, p);
-    show::line(b"c first", &c, &mut work, &mut report, p, true);
-    show::line(b"e second", &e, &mut work, &mut report, p, true);
-    show::line(b"g third", &g, &mut work, &mut report, p, true);
+    show::line(rt, "c first", &c, &mut work, &mut report, p, true)?;
+    show::line(rt, "e second", &e, &mut work, &mut report, p, true)?;
+    show::line(rt, "g third", &g, &mut work, &mut report, p, true)
 }
 
 // The buffers have one word throughout.
-fn j_over(name: &[u8], word: u32) {
+fn j_over(rt: &impl Print, name: &str, word: u32) -> io::Result<()> {
     let j = samples::J;
-    over(name, &j, 130, 70, word);
+    over(rt, name, &j, 130, 70, word)
 }
 
-fn i_over(name: &[u8], word: u32) {
+fn i_over(rt: &impl Print, name: &str, word: u32) -> io::Result<()> {
     let i = samples::I;
-    over(name, &i, 90, 50, word);
+    over(rt, name, &i, 90, 50, word)
 }
 
-fn b_over(name: &[u8], word: u32) {
+fn b_over(rt: &impl Print, name: &str, word: u32) -> io::Result<()> {
     let b = samples::B;
-    over(name, &b, 90, 50, word);
+    over(rt, name, &b, 90, 50, word)
 }
 
-fn over_one_word() {
-    j_over(b"j over 0", 0);
-    j_over(b"j over 1", 1);
-    j_over(b"j over 4294967295", 4294967295);
-    i_over(b"i over 1", 1);
-    i_over(b"i over 4294967295", 4294967295);
-    b_over(b"b over 1", 1);
-    b_over(b"b over 4294967295", 4294967295);
+fn over_one_word(rt: &impl Print) -> io::Result<()> {
+    j_over(rt, "j over 0", 0)?;
+    j_over(rt, "j over 1", 1)?;
+    j_over(rt, "j over 4294967295", 4294967295)?;
+    i_over(rt, "i over 1", 1)?;
+    i_over(rt, "i over 4294967295", 4294967295)?;
+    b_over(rt, "b over 1", 1)?;
+    b_over(rt, "b over 4294967295", 4294967295)
 }
 
-pub(crate) fn run() {
-    one_after_another();
-    longer_each_time();
-    over_one_word();
+pub(crate) fn run(rt: &impl Print) -> io::Result<()> {
+    one_after_another(rt)?;
+    longer_each_time(rt)?;
+    over_one_word(rt)
 }

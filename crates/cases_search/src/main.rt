@@ -12,11 +12,13 @@ mod room;
 mod show;
 mod slips;
 
-fn main() {
-    hand::run();
-    lengths::run();
-    again::run();
-    refused::run();
-    slips::run();
-    ring::run();
+use std::io;
+
+fn main(rt: HostRuntime) -> io::Result<()> {
+    hand::run(&rt)?;
+    lengths::run(&rt)?;
+    again::run(&rt)?;
+    refused::run(&rt)?;
+    slips::run(&rt)?;
+    ring::run(&rt)
 }

@@ -1,7 +1,7 @@
 // What a buffer has before a search, and how much of it stays. docs/RULES.md, "Buffers".
 
 // The first word, and how much each later one is above the one before it.
-#[derive(Drop)]
+#[derive(Clone, Copy)]
 pub(crate) struct Pattern {
     pub(crate) first: u32,
     pub(crate) step: u32,
@@ -25,24 +25,20 @@ pub(crate) fn all(word: u32) -> Pattern {
 
 pub(crate) fn fill(words: &mut [u32], p: Pattern) {
     let mut x = p.first;
-    let mut i = 0;
-    while i < words.len() {
-        words[i] = x;
-        x = std::num::wrapping_add_u32(x, p.step);
-        i += 1;
+    for word in words.iter_mut() {
+        *word = x;
+        x = x.wrapping_add(p.step);
     }
 }
 
 // How many words are zero before the first that is not.
 pub(crate) fn zeros(words: &[u32]) -> usize {
-    let mut i = 0;
-    while i < words.len() {
-        if words[i] != 0 {
+    for (i, word) in words.iter().enumerate() {
+        if *word != 0 {
             return i;
         }
-        i += 1;
     }
-    i
+    words.len()
 }
 
 fn one_more(count: usize) -> usize {
@@ -57,13 +53,11 @@ fn one_more(count: usize) -> usize {
 pub(crate) fn kept(words: &[u32], from: usize, p: Pattern) -> usize {
     let mut same = 0;
     let mut x = p.first;
-    let mut i = 0;
-    while i < words.len() {
-        if (from <= i) & (words[i] == x) {
+    for (i, word) in words.iter().enumerate() {
+        if (from <= i) & (*word == x) {
             same = one_more(same);
         }
-        x = std::num::wrapping_add_u32(x, p.step);
-        i += 1;
+        x = x.wrapping_add(p.step);
     }
     same
 }

@@ -2,32 +2,27 @@
 // have.
 use super::pattern;
 use super::pattern::Pattern;
-use libc::STDOUT_FILENO;
 use search::Answer;
+use std::io;
 
-fn text(words: &[u8]) {
-    io::write_all(STDOUT_FILENO, words);
+fn text(rt: &impl Print, words: &str) -> io::Result<()> {
+    rt.print(words)
 }
 
-fn number(before: &[u8], x: usize) {
-    text(before);
-    io::print_decimal(STDOUT_FILENO, x as u64);
+fn number(rt: &impl Print, before: &str, x: usize) -> io::Result<()> {
+    print!(rt; "{before}{x}")
 }
 
-fn word(x: u32) {
-    number(b" ", x as usize);
+fn word(rt: &impl Print, x: u32) -> io::Result<()> {
+    number(rt, " ", x as usize)
 }
 
 // Writes the words from index `from` on and below `to`.
-fn words(w: &[u32], from: usize, to: usize) {
-    let mut i = from;
-    while i < w.len() {
-        if to <= i {
-            return;
-        }
-        word(w[i]);
-        i += 1;
+fn words(rt: &impl Print, w: &[u32], from: usize, to: usize) -> io::Result<()> {
+    for x in w.iter().take(to).skip(from) {
+        word(rt, *x)?;
     }
+    Ok(())
 }
 
 // How many words a run of length k takes, in a report of `len` words.
@@ -36,24 +31,24 @@ fn run_words(k: usize, len: usize) -> usize {
 }
 
 // Writes the answer, and gives back how many words of the report it takes.
-fn answered(answer: Answer, report: &[u32]) -> usize {
+fn answered(rt: &impl Print, answer: Answer, report: &[u32]) -> io::Result<usize> {
     match answer {
         Answer::Lasso { k, l } => {
             let taken = run_words(k, report.len());
-            number(b": lasso ", k);
-            number(b" ", l);
-            text(b", run");
-            words(report, 0, taken);
-            taken
+            number(rt, ": lasso ", k)?;
+            number(rt, " ", l)?;
+            text(rt, ", run")?;
+            words(rt, report, 0, taken)?;
+            Ok(taken)
         }
         Answer::Holds => {
-            text(b": holds");
-            0
+            text(rt, ": holds")?;
+            Ok(0)
         }
         Answer::Refused(why) => {
-            number(b": refused ", why.number() as usize);
-            number(b" ", why.place());
-            0
+            number(rt, ": refused ", why.number() as usize)?;
+            number(rt, " ", why.place())?;
+            Ok(0)
         }
     }
 }
@@ -61,27 +56,28 @@ fn answered(answer: Answer, report: &[u32]) -> usize {
 // Searches in these buffers, which had the pattern p at first, and writes the line: the zeros that the workspace begins with and how many words
 // past them are as the pattern has them, and, past the run, the whole report or how many of its words are as the pattern has them.
 pub(crate) fn line(
-    name: &[u8],
+    rt: &impl Print,
+    name: &str,
     bytes: &[u8],
     work: &mut [u32],
     report: &mut [u32],
     p: Pattern,
     whole: bool,
-) {
-    text(name);
-    number(b", ", work.len());
-    number(b" and ", report.len());
-    text(b" words");
+) -> io::Result<()> {
+    text(rt, name)?;
+    number(rt, ", ", work.len())?;
+    number(rt, " and ", report.len())?;
+    text(rt, " words")?;
     let answer = search::search(bytes, work, report);
-    let taken = answered(answer, report);
+    let taken = answered(rt, answer, report)?;
     let cleared = pattern::zeros(work);
-    number(b", zeros ", cleared);
-    number(b" kept ", pattern::kept(work, cleared, p));
+    number(rt, ", zeros ", cleared)?;
+    number(rt, " kept ", pattern::kept(work, cleared, p))?;
     if whole {
-        text(b", rest of the report");
-        words(report, taken, report.len());
+        text(rt, ", rest of the report")?;
+        words(rt, report, taken, report.len())?;
     } else {
-        number(b", report kept ", pattern::kept(report, taken, p));
+        number(rt, ", report kept ", pattern::kept(report, taken, p))?;
     }
-    text(b"\n");
+    text(rt, "\n")
 }

@@ -1,6 +1,6 @@
 // One line a case: its name, then s t live v of the record that moved, or the refusal's number and place.
-use libc::STDOUT_FILENO;
 use recorder::Record;
+use std::io;
 use stepping::Stepped;
 
 // A record of these parts.
@@ -8,26 +8,32 @@ pub(crate) fn at(s: usize, t: usize, live: bool, v: usize) -> Record {
     Record { s, t, live, v }
 }
 
-fn number(before: &[u8], x: usize) {
-    io::write_all(STDOUT_FILENO, before);
-    io::print_decimal(STDOUT_FILENO, x as u64);
+fn number(rt: &impl Print, before: &str, x: usize) -> io::Result<()> {
+    print!(rt; "{before}{x}")
 }
 
 // Runs a case and writes its line.
-pub(crate) fn case(name: &[u8], bytes: &[u8], r: Record, next: usize, wish: bool) {
-    io::write_all(STDOUT_FILENO, name);
+pub(crate) fn case(
+    rt: &impl Print,
+    name: &str,
+    bytes: &[u8],
+    r: Record,
+    next: usize,
+    wish: bool,
+) -> io::Result<()> {
+    rt.print(name)?;
     let answer = stepping::step(bytes, r, next, wish);
     match answer {
         Stepped::Moved(r) => {
-            number(b": ", r.s);
-            number(b" ", r.t);
-            number(b" ", r.live as usize);
-            number(b" ", r.v);
+            number(rt, ": ", r.s)?;
+            number(rt, " ", r.t)?;
+            number(rt, " ", r.live as usize)?;
+            number(rt, " ", r.v)?;
         }
         Stepped::Refused(why) => {
-            number(b": refused ", why.number() as usize);
-            number(b" ", why.place());
+            number(rt, ": refused ", why.number() as usize)?;
+            number(rt, " ", why.place())?;
         }
     }
-    io::write_all(STDOUT_FILENO, b"\n");
+    rt.print("\n")
 }

@@ -1,41 +1,42 @@
 // The twelve tables of docs/RULES.md, "Tables by hand", each with an output of exactly its size. Each line has the whole output.
 use super::room::whole;
+use std::io;
 
-fn first_four() {
+fn first_four(rt: &impl Print) -> io::Result<()> {
     let a = samples::A;
     let b = samples::B;
     let c = samples::C;
     let d = samples::D;
-    whole(b"a", &a, 616);
-    whole(b"b", &b, 424);
-    whole(b"c", &c, 76);
-    whole(b"d", &d, 76);
+    whole(rt, "a", &a, 616)?;
+    whole(rt, "b", &b, 424)?;
+    whole(rt, "c", &c, 76)?;
+    whole(rt, "d", &d, 76)
 }
 
-fn next_four() {
+fn next_four(rt: &impl Print) -> io::Result<()> {
     let e = samples::E;
     let f = samples::F;
     let g = samples::G;
     let h = samples::H;
-    whole(b"e", &e, 344);
-    whole(b"f", &f, 280);
-    whole(b"g", &g, 528);
-    whole(b"h", &h, 188);
+    whole(rt, "e", &e, 344)?;
+    whole(rt, "f", &f, 280)?;
+    whole(rt, "g", &g, 528)?;
+    whole(rt, "h", &h, 188)
 }
 
-fn last_four() {
+fn last_four(rt: &impl Print) -> io::Result<()> {
     let i = samples::I;
     let j = samples::J;
     let k = samples::K;
     let l = samples::L;
-    whole(b"i", &i, 472);
-    whole(b"j", &j, 1004);
-    whole(b"k", &k, 76);
-    whole(b"l", &l, 736);
+    whole(rt, "i", &i, 472)?;
+    whole(rt, "j", &j, 1004)?;
+    whole(rt, "k", &k, 76)?;
+    whole(rt, "l", &l, 736)
 }
 
-pub(crate) fn run() {
-    first_four();
-    next_four();
-    last_four();
+pub(crate) fn run(rt: &impl Print) -> io::Result<()> {
+    first_four(rt)?;
+    next_four(rt)?;
+    last_four(rt)
 }

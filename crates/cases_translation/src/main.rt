@@ -11,11 +11,13 @@ mod room;
 mod sets;
 mod show;
 
-fn main() {
-    hand::run();
-    lengths::run();
-    again::run();
-    refused::run();
-    sets::run();
-    large::run();
+use std::io;
+
+fn main(rt: HostRuntime) -> io::Result<()> {
+    hand::run(&rt)?;
+    lengths::run(&rt)?;
+    again::run(&rt)?;
+    refused::run(&rt)?;
+    sets::run(&rt)?;
+    large::run(&rt)
 }

@@ -7,11 +7,9 @@ const STEP: u8 = 7;
 
 pub(crate) fn fill(out: &mut [u8]) {
     let mut x = FIRST;
-    let mut i = 0;
-    while i < out.len() {
-        out[i] = x;
-        x = std::num::wrapping_add_u8(x, STEP);
-        i += 1;
+    for byte in out.iter_mut() {
+        *byte = x;
+        x = x.wrapping_add(STEP);
     }
 }
 
@@ -27,13 +25,11 @@ fn one_more(count: usize) -> usize {
 pub(crate) fn kept(out: &[u8], from: usize) -> usize {
     let mut same = 0;
     let mut x = FIRST;
-    let mut i = 0;
-    while i < out.len() {
-        if (from <= i) & (out[i] == x) {
+    for (i, byte) in out.iter().enumerate() {
+        if (from <= i) & (*byte == x) {
             same = one_more(same);
         }
-        x = std::num::wrapping_add_u8(x, STEP);
-        i += 1;
+        x = x.wrapping_add(STEP);
     }
     same
 }

@@ -1,51 +1,61 @@
 // A case with an output of its own, lent as long as the case says. It has the pattern before the translation.
 use super::{pattern, show};
+use std::io;
 
-fn filled(name: &[u8], table: &[u8], out: &mut [u8], all: bool) {
+fn filled(rt: &impl Print, name: &str, table: &[u8], out: &mut [u8], all: bool) -> io::Result<()> {
     pattern::fill(out);
     if all {
-        show::whole(name, table, out);
+        show::whole(rt, name, table, out)?;
     } else {
-        show::kept(name, table, out, false);
+        show::kept(rt, name, table, out, false)?;
     }
+    Ok(())
 }
 
 // Lends the first n bytes of an output.
-fn lent(name: &[u8], table: &[u8], n: usize, all: bool) {
+fn lent(rt: &impl Print, name: &str, table: &[u8], n: usize, all: bool) -> io::Result<()> {
     let mut out = [0u8; 1200];
     if n <= 1200 {
-        filled(name, table, &mut out[..n], all);
+        filled(rt, name, table, &mut out[..n], all)?;
     }
+    Ok(())
 }
 
 // A case with n bytes of output.
-pub(crate) fn case(name: &[u8], table: &[u8], n: usize) {
-    lent(name, table, n, false);
+pub(crate) fn case(rt: &impl Print, name: &str, table: &[u8], n: usize) -> io::Result<()> {
+    lent(rt, name, table, n, false)
 }
 
 // The same, and the line has the whole output.
-pub(crate) fn whole(name: &[u8], table: &[u8], n: usize) {
-    lent(name, table, n, true);
+pub(crate) fn whole(rt: &impl Print, name: &str, table: &[u8], n: usize) -> io::Result<()> {
+    lent(rt, name, table, n, true)
 }
 
-fn filled_and_summed(name: &[u8], table: &[u8], out: &mut [u8]) {
+fn filled_and_summed(rt: &impl Print, name: &str, table: &[u8], out: &mut [u8]) -> io::Result<()> {
     pattern::fill(out);
-    show::kept(name, table, out, true);
+    show::kept(rt, name, table, out, true)
 }
 
 // Lends the first n bytes of `out`.
-fn part(name: &[u8], table: &[u8], out: &mut [u8], n: usize) {
+fn part(rt: &impl Print, name: &str, table: &[u8], out: &mut [u8], n: usize) -> io::Result<()> {
     if n <= out.len() {
-        filled_and_summed(name, table, &mut out[..n]);
+        filled_and_summed(rt, name, table, &mut out[..n])?;
     }
+    Ok(())
 }
 
-fn long(name: &[u8], table: &[u8], out: &mut [u8; 603200], n: usize) {
-    part(name, table, out, n);
+fn long(
+    rt: &impl Print,
+    name: &str,
+    table: &[u8],
+    out: &mut [u8; 603200],
+    n: usize,
+) -> io::Result<()> {
+    part(rt, name, table, out, n)
 }
 
 // As `case`, for a long output, and the line has its sums.
-pub(crate) fn summed(name: &[u8], table: &[u8], n: usize) {
+pub(crate) fn summed(rt: &impl Print, name: &str, table: &[u8], n: usize) -> io::Result<()> {
     let mut out = [0u8; 603200];
-    long(name, table, &mut out, n);
+    long(rt, name, table, &mut out, n)
 }

@@ -1,2 +1,3 @@
--- What is counted of a read, and that it fits. Assumes nothing.
+-- What is counted of a read, that it fits, and which bytes it brings. Assumes nothing.
 pub mod Counted
+pub mod Known
