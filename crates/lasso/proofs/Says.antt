@@ -3,16 +3,9 @@ use Rattle.std.specs.Prelude.{◌≡◌, Bool, List, ℕ}
 use Rattle.std.proofs.Common.{sym, ap, ◌∙◌}
 use Rattle.order.proofs.Settled.{both_settled}
 use Rattle.recorder.specs.declared.Record.{Record}
-use Rattle.table.specs.Open.{open_of}
-use Rattle.quote.specs.Quote.{quote_of}
-use Rattle.stepping.specs.Step.{stepped_of}
-use Rattle.search.specs.Searched.{SearchSays}
 use Rattle.search.specs.Laws.{search_unique}
-use Rattle.search.specs.declared.Answer.{Answer as Searched}
-use Rattle.translation.specs.Translated.{TranslateSays}
 use Rattle.translation.proofs.Laws.{translate_unique}
-use Rattle.translation.specs.declared.Answer.{Answer as Translated}
-use Rattle.lasso.specs.Words.{open_number, open_words, quote_number, quote_words, step_number, step_words, search_number, search_words, translate_number, translate_words}
+use Rattle.lasso.specs.Words.{search_number, search_words, translate_number, translate_words}
 use Rattle.lasso.specs.Says.{OpenSaid, QuoteSaid, StepSaid, SearchSaid, TranslateSaid}
 
 -- ---- two results that meet a statement are equal

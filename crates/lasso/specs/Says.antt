@@ -1,17 +1,13 @@
 -- What the five exported jobs say, and that each statement settles number, words and buffers.
 -- docs/RULES.md, "Strength of the statements". Assumes nothing.
 use Rattle.std.specs.Prelude.{◌≡◌, Bool, List, ℕ}
-use Rattle.std.proofs.Common.{sym, ap, ◌∙◌}
-use Rattle.order.proofs.Settled.{both_settled}
 use Rattle.recorder.specs.declared.Record.{Record}
 use Rattle.table.specs.Open.{open_of}
 use Rattle.quote.specs.Quote.{quote_of}
 use Rattle.stepping.specs.Step.{stepped_of}
 use Rattle.search.specs.Searched.{SearchSays}
-use Rattle.search.specs.Laws.{search_unique}
 use Rattle.search.specs.declared.Answer.{Answer as Searched}
 use Rattle.translation.specs.Translated.{TranslateSays}
-use Rattle.translation.proofs.Laws.{translate_unique}
 use Rattle.translation.specs.declared.Answer.{Answer as Translated}
 use Rattle.lasso.specs.Words.{open_number, open_words, quote_number, quote_words, step_number, step_words, search_number, search_words, translate_number, translate_words}
 

@@ -19,7 +19,6 @@ use Rattle.translation.specs.declared.Answer.{Answer as Translated}
 use Rattle.translation.specs.declared.Answer.TheVariants.{Written, Refused as TranslateRefused}
 use Rattle.lines.specs.Text.{numbers_of, line_of, board_word, none_word, refused_word, lasso_word, run_word, holds_word, board_line, sheet_lines, refused_line, answer_lines, verdict_of}
 use Rattle.lines.specs.Puts.{Puts}
-use Rattle.lines.proofs.Puts.{puts_length}
 use Rattle.lines.specs.Says.{RunFits, VerdictSays, TranslateWrites}
 
 module _ {from to : ℕ} {w w' : List ℕ} where

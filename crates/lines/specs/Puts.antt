@@ -1,9 +1,7 @@
 -- What a function that writes text into a lent buffer says, and the laws of writing text after text. Assumes nothing.
-use Rattle.std.specs.Prelude.{◌≡◌, refl, List, [], ◌∷◌, ◌++◌, ℕ, suc, ◌+◌, ◌*◌, ◌^◌, ◌≤◌, ◌<◌, length, get_or, set, take}
-use Rattle.std.proofs.Common.{sym, ap, ◌∙◌, subst, append_assoc, append-nil, arith, length-append, length-set, take-suc, take_all}
-use Rattle.writing.specs.Placed.{placed, placed_none, placed_one, placed_on, length-placed}
-use Rattle.io.specs.Digits.{last_digits, IsDigitCount}
-use Rattle.lines.specs.Text.{decimal_of, numbers_of, line_of}
+use Rattle.std.specs.Prelude.{◌≡◌, List, ℕ, ◌+◌, ◌*◌, ◌≤◌, length, take}
+use Rattle.writing.specs.Placed.{placed}
+use Rattle.lines.specs.Text.{numbers_of}
 
 -- the text stands from place `from` on and the rest is as it was; the answer is the place after it
 pub record Puts (text : List ℕ) (from : ℕ) (w : List ℕ) (to : ℕ) (w' : List ℕ) : Type 0 where

@@ -2,7 +2,6 @@
 // row starts, its targets and its marks. State 0 is the start and no state has the goal unless said. The first twelve are those of that page.
 #![tactic(auto)]
 
-
 // a: four states, s to s and s to s+1 (3 to 0), goal 3.
 pub const A: [u8; 84] = *b"\x01\0\0\0\x04\0\0\0\x08\0\0\0\0\0\0\0\x1c\0\0\0\x30\0\0\0\x50\0\0\0\
        \0\0\0\0\x02\0\0\0\x04\0\0\0\x06\0\0\0\x08\0\0\0\

@@ -7,7 +7,6 @@ use Rattle.order.specs.Log.{Queue}
 use Rattle.order.specs.Turn.{Between, Turning}
 use Rattle.order.proofs.Turn.{turn_begins, turn_skips, turn_ends}
 use Rattle.recorder.specs.Flag.{Flag}
-use Rattle.recorder.specs.SlotGraph.{at}
 use Rattle.table.specs.Layout.{states_of, target}
 use Rattle.table.specs.BlockOf.{block_of}
 use Rattle.table.specs.WellFormed.{WellFormed}

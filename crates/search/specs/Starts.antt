@@ -9,7 +9,7 @@ use Rattle.order.specs.Turn.{Between}
 use Rattle.recorder.specs.Flag.{Flag}
 use Rattle.recorder.specs.Recorder.{start_of, bad_of, number}
 use Rattle.recorder.proofs.Bad.{bad_says}
-use Rattle.recorder.specs.SlotGraph.{at, slot}
+use Rattle.recorder.specs.SlotGraph.{at}
 use Rattle.recorder.proofs.SlotGraph.{at_start}
 use Rattle.table.specs.Layout.{states_of}
 use Rattle.table.specs.BlockOf.{block_of}

@@ -7,14 +7,12 @@ use Rattle.recorder.specs.Flag.{Flag, live_flag}
 use Rattle.recorder.specs.Recorder.{start_of, bad_of, unsaved}
 use Rattle.recorder.specs.Slots.{slot_of, record_of_slot, bit_of, InRange}
 use Rattle.recorder.proofs.Slots.{slot_of_record, saved_in, bits_in}
-use Rattle.recorder.specs.SlotGraph.{at, slot}
+use Rattle.recorder.specs.SlotGraph.{at}
 use Rattle.recorder.specs.Says.{StartSays, BadSays}
 use Rattle.recorder.specs.declared.Record.{Record}
 use Rattle.quote.proofs.Sizes.{edges_small}
 use Rattle.table.specs.BlockOf.{block_of}
 use Rattle.table.specs.Layout.{states_of, edges_of, sets_of, row_start}
-use Rattle.table.specs.WellFormed.{WellFormed}
-use Rattle.table.specs.LaidOut.{LaidOut}
 use Rattle.table.proofs.Row.{row_some, row_to_lem}
 use Rattle.table.specs.Recording.{slots_of, state_of, from_of, to_of}
 use Rattle.table.proofs.Recording.{slots_few, state_in, block_states, block_sets, start_slot, made_range, made_slot}

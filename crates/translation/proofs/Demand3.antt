@@ -1,20 +1,19 @@
 -- Laws of specs/Demand3.antt. Assumes nothing.
-use Rattle.std.specs.Prelude.{◌≡◌, refl, Bool, true, false, ◌↔◌, List, [], ◌∷◌, map, ℕ, zero, suc, ◌<◌, length}
+use Rattle.std.specs.Prelude.{◌≡◌, refl, Bool, true, List, [], ◌∷◌, map, ℕ, zero, suc, ◌<◌, length}
 use Rattle.std.proofs.Common.{sym, ap, ap₂, subst, subst₂, ◌∙◌, arith, ext_get_or}
 use mathlib.Core.Logic.Iff
 use Rattle.std.proofs.lemmas.Simd.{map-map}
 use Rattle.std.proofs.lemmas.List.{length-map}
 use Rattle.recorder.specs.Block.{Block, Sound}
 use Rattle.recorder.specs.Flag.{Flag, live_flag, LassoBy}
-use Rattle.recorder.specs.Lasso.{Lasso, Run, state}
+use Rattle.recorder.specs.Lasso.{Run, state}
 use Rattle.recorder.proofs.Live.{lasso_live}
-use Rattle.recorder.specs.Recorder.{RecordRun, StepTo, Choice, Fits, zeros, record_of, record_at, strike, choice_of, step_of, bad_of}
+use Rattle.recorder.specs.Recorder.{RecordRun, StepTo, Fits, zeros, record_of, record_at, strike, choice_of, step_of, bad_of}
 use Rattle.recorder.specs.Slots.{InRange}
 use Rattle.recorder.proofs.Slots.{slot_of_record, slot_below}
 use Rattle.recorder.specs.SlotGraph.{at, slot}
 use Rattle.recorder.proofs.SlotGraph.{at_start, at_next}
 use Rattle.recorder.proofs.SlotRuns.{run_in_range, at_place, slot_step}
-use Rattle.recorder.specs.Looped.{Looped}
 use Rattle.recorder.proofs.Bad.{looped_same}
 use Rattle.recorder.proofs.Words.{at_map}
 use Rattle.recorder.proofs.Demand3.{demand3_by}

@@ -2,31 +2,15 @@
 -- starts, each with a choice of the place at which to record. First the statement, a field for each sentence, then the proof: by `edge_read` and
 -- `start_read` the runs of the file are the runs of records. Over any flag R, then read for the flag of docs/RULES.md, "The recorder". Assumes
 -- nothing.
-use Rattle.std.specs.Prelude.{◌≡◌, refl, Bool, true, false, ◌↔◌, List, [], ◌∷◌, map, ℕ, zero, suc, ◌<◌, length}
-use Rattle.std.proofs.Common.{sym, ap, ap₂, subst, subst₂, ◌∙◌, arith, ext_get_or}
-use Rattle.std.proofs.lemmas.Simd.{map-map}
-use Rattle.std.proofs.lemmas.List.{length-map}
-use Rattle.recorder.specs.Block.{Block, Sound}
-use Rattle.recorder.specs.Flag.{Flag, live_flag, LassoBy}
+use Rattle.std.specs.Prelude.{◌≡◌, true, false, ◌↔◌, List, map, ℕ, suc, ◌<◌, length}
+use Rattle.recorder.specs.Flag.{Flag, live_flag}
 use Rattle.recorder.specs.Lasso.{Lasso, Run, state}
-use Rattle.recorder.proofs.Live.{lasso_live}
-use Rattle.recorder.specs.Recorder.{RecordRun, StepTo, Choice, Fits, zeros, record_of, record_at, strike, choice_of, step_of, bad_of}
-use Rattle.recorder.specs.Slots.{InRange}
-use Rattle.recorder.proofs.Slots.{slot_of_record, slot_below}
+use Rattle.recorder.specs.Recorder.{Choice, Fits, record_at, choice_of}
 use Rattle.recorder.specs.SlotGraph.{at, slot}
-use Rattle.recorder.proofs.SlotGraph.{at_start, at_next}
-use Rattle.recorder.proofs.SlotRuns.{run_in_range, at_place, slot_step}
 use Rattle.recorder.specs.Looped.{Looped}
-use Rattle.recorder.proofs.Bad.{looped_same}
-use Rattle.recorder.proofs.Words.{at_map}
-use Rattle.recorder.proofs.Demand3.{demand3_by}
-use Rattle.recorder.specs.declared.Record.{Record}
-use Rattle.table.specs.Layout.{states_of, sets_of}
 use Rattle.table.specs.BlockOf.{block_of}
 use Rattle.table.specs.WellFormed.{WellFormed}
-use Rattle.table.proofs.Sound.{sound}
-use Rattle.table.specs.Recording.{slots_of, state_of}
-use Rattle.table.proofs.Recording.{next_in}
+use Rattle.table.specs.Recording.{state_of}
 use Rattle.translation.specs.File.{file_of}
 use Rattle.translation.specs.Marks.{bad_in}
 

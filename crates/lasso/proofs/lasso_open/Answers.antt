@@ -2,7 +2,6 @@
 use mathlib.Core.Path.{sym, ◌∙◌}
 use Rattle.table.proofs.WellFormed.{why_is}
 use Rattle.lasso.proofs.Laws.{open_accepted, open_refused}
-use borrow.Author.Rules.{rules}
 use Rattle.lasso.proofs.lasso_open.Goals as goal
 
 pub returns-in_default : goal.returns-in_default
@@ -10,4 +9,3 @@ returns-in_default c = open_refused _ _ _ _ (sym c.open-opened.ensures ∙ why_i
 
 pub returns : goal.returns
 returns c = open_accepted _ _ (sym c.open-opened.ensures ∙ c.in-Accepted.is)
-

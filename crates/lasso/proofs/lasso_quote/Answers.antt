@@ -1,10 +1,8 @@
 -- number and place are those of opening's answer, and the sheet has four numbers of members.
 use Rattle.lasso.proofs.Laws.{quote_told}
-use borrow.Author.Rules.{rules}
 use Rattle.lasso.proofs.lasso_quote.Goals as goal
 
 pub returns : goal.returns
 returns c =
     let q = c.quote-quoted in
     quote_told _ _ _ _ q.ensures c.number_of.ensures c.place_of.ensures
-

@@ -1,6 +1,5 @@
 -- the search's answer is told case by case.
 use Rattle.lasso.proofs.Laws.{search_lasso, search_holds, search_refused}
-use borrow.Author.Rules.{rules}
 use Rattle.lasso.proofs.lasso_search.Goals as goal
 
 pub returns-in-Lasso : goal.returns-in-Lasso
@@ -11,4 +10,3 @@ returns-in-Holds c = (_, c.search.ensures, search_holds _ c.in-Holds.is)
 
 pub returns-in-Refused : goal.returns-in-Refused
 returns-in-Refused c = (_, c.search.ensures, search_refused _ _ _ _ c.in-Refused.is c.number.ensures c.place.ensures)
-

@@ -1,6 +1,5 @@
 -- the translation's answer is told case by case.
 use Rattle.lasso.proofs.Laws.{translate_written, translate_refused}
-use borrow.Author.Rules.{rules}
 use Rattle.lasso.proofs.lasso_translate.Goals as goal
 
 pub returns-in-Written : goal.returns-in-Written
@@ -8,4 +7,3 @@ returns-in-Written c = (_, c.translate.ensures, translate_written _ _ c.in-Writt
 
 pub returns-in-Refused : goal.returns-in-Refused
 returns-in-Refused c = (_, c.translate.ensures, translate_refused _ _ _ _ c.in-Refused.is c.number.ensures c.place.ensures)
-

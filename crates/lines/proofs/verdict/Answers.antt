@@ -3,7 +3,6 @@ use native.Mathlib.Omega.{arith}
 use Rattle.table.proofs.WellFormed.{why_is}
 use Rattle.lines.proofs.Puts.{puts_on, puts_length}
 use Rattle.lines.proofs.Laws.{run_fits, puts_table_refused, puts_verdict}
-use borrow.Author.Rules.{rules}
 use Rattle.lines.proofs.verdict.Goals as goal
 
 pub returns-in_default : goal.returns-in_default
@@ -20,4 +19,3 @@ answer_lines-requires c =
 
 pub returns : goal.returns
 returns c = (_, c.search-answer.ensures, puts_verdict _ _ _ _ c.quote-quoted.ensures _ c.in-Accepted.is (puts_on c.sheet_lines-end.ensures.puts c.answer_lines.ensures))
-

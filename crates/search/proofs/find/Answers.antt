@@ -4,7 +4,6 @@ use mathlib.Core.Path.{◌≡◌, sym, ap₂, ◌∙◌}
 use Prim.Native.Nat.{ℕ, ◌*◌, ◌≤◌}
 use native.Mathlib.Omega.{arith}
 use lib.ListN.{length, drop}
-use borrow.Author.Rules.{rules}
 use Rattle.recorder.specs.Flag.{live_flag}
 use Rattle.recorder.specs.Slots.{slot_count}
 use Rattle.table.proofs.Recording.{slots_few}
@@ -101,9 +100,7 @@ returns c =
     c.scan-seen.new.work c.in-Bad.head c.in-Bad.slot = (seen_as c.in-Bad.is c.scan-seen.ensures).seen in
     let told : Told live_flag c.args.bytes.now
     (path_by (label_of c.args.t.states c.args.t.sets) c.args.slots c.scan-seen.new.work c.in-Bad.head) = let a = asks in stopped_tells live_flag _ _ _ _ _ _ _ a.formed a.laid.states_are a.laid.sets_are stopped in
-    let length-is : c.path_length-len.result ≡ length (path_by (label_of c.args.t.states c.args.t.sets) c.args.slots c.scan-seen.new.work c.in-Bad.head) = c.path_length-len.ensures _ in
-    (
+    let length-is : c.path_length-len.result ≡ length (path_by (label_of c.args.t.states c.args.t.sets) c.args.slots c.scan-seen.new.work c.in-Bad.head) = c.path_length-len.ensures _ in (
       says_lasso _ _ told length-is c.write_path-unsaved.ensures.value c.write_path-unsaved.ensures.report_after,
       clears _ _ asks.slots_are rest c.clear-2.ensures,
     )
-

@@ -1,9 +1,6 @@
 -- the table is opened and taken, the code goes down lines 9 and 10, and then it finds.
 use mathlib.Core.Path.{◌≡◌, sym, ap₂, ◌∙◌}
-use mathlib.Core.List.{List}
-use Prim.Native.Nat.{ℕ}
 use native.Mathlib.Omega.{arith}
-use borrow.Author.Rules.{rules}
 use Rattle.recorder.specs.Slots.{slot_count}
 use Rattle.table.specs.Open.{open_of}
 use Rattle.table.proofs.WellFormed.{well_formed, laid, why_is}
@@ -69,4 +66,3 @@ returns c =
     let opened : open_of b ≡ Accepted t = sym c.open-answer.ensures ∙ c.in-Accepted.is in
     let slots_are : c.slot_count-slots.result ≡ slots_of b = let l = laid _ _ opened in c.slot_count-slots.ensures ∙ ap₂ slot_count l.states_are l.sets_are in
     finds _ _ _ _ opened (omega (arith, c.if-work-slots.false, slots_are)) (omega (arith, c.if-report-slots.false, slots_are)) _ _ _ c.find.ensures
-

@@ -1,12 +1,11 @@
 -- the table is opened and taken, the code goes down line 11, and then it lends each part of the output to
 -- its writer.
 use mathlib.Core.Path.{◌≡◌, sym, ap₂, ◌∙◌}
-use mathlib.Core.List.{List, ◌++◌}
-use Prim.Native.Nat.{ℕ, suc, ◌+◌, ◌-◌, ◌*◌, ◌≤◌}
+use mathlib.Core.List.{◌++◌}
+use Prim.Native.Nat.{suc, ◌+◌, ◌-◌, ◌*◌, ◌≤◌}
 use native.Mathlib.Omega.{arith}
 use lib.ListN.{length, take, drop}
 use lib.Seq.{length-take-le}
-use borrow.Author.Rules.{rules}
 use Rattle.recorder.specs.Flag.{live_flag}
 use Rattle.recorder.specs.Slots.{slot_count}
 use Rattle.table.specs.Layout.{little_endian}
@@ -269,4 +268,3 @@ returns c =
     let z = size_is counted in
     let r = room in
     translated _ out _ opened (omega arith) _ z _ (marks_there live_flag counted out r is₃ c.write_marks.ensures) formed
-

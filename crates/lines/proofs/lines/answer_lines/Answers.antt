@@ -1,12 +1,11 @@
 -- the lines of the answer, case by case.
-use mathlib.Core.Path.{◌≡◌, sym}
+use mathlib.Core.Path.{◌≡◌}
 use Prim.Native.Nat.{◌+◌, ◌<◌}
 use native.Mathlib.Omega.{arith}
 use lib.ListN.{length}
 use lib.Seq.{length-take-le}
 use Rattle.lines.proofs.Puts.{puts_on, puts_length}
 use Rattle.lines.proofs.Laws.{lasso_fits, puts_lasso, puts_holds, puts_answer_refused}
-use borrow.Author.Rules.{rules}
 use Rattle.lines.proofs.lines.answer_lines.Goals as goal
 
 pub overflow_add-k : goal.overflow_add-k
@@ -33,4 +32,3 @@ returns-in-Holds c = puts_holds c.args.answer c.args.report.now c.in-Holds.is c.
 
 pub returns-in-Refused : goal.returns-in-Refused
 returns-in-Refused c = puts_answer_refused c.args.answer c.args.report.now _ c.in-Refused.is c.refused_line.ensures
-

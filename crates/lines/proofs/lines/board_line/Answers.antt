@@ -2,7 +2,6 @@
 use native.Mathlib.Omega.{arith}
 use Rattle.lines.proofs.Puts.{puts_on}
 use Rattle.lines.proofs.Laws.{puts_letter, puts_no_board}
-use borrow.Author.Rules.{rules}
 use Rattle.lines.proofs.lines.board_line.Goals as goal
 
 pub returns-then-board-lt8 : goal.returns-then-board-lt8
@@ -26,4 +25,3 @@ returns-else-board-lt8 c =
       puts = puts_no_board c.args.board (omega arith) (puts_on first p);
       upper_bound = omega arith;
     }
-

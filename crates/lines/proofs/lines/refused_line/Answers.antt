@@ -1,6 +1,5 @@
 -- number and place are those of the list.
 use Rattle.lines.proofs.Laws.{puts_refused}
-use borrow.Author.Rules.{rules}
 use Rattle.lines.proofs.lines.refused_line.Goals as goal
 
 pub returns : goal.returns
@@ -9,4 +8,3 @@ returns c =
     let place = c.place-place in
     let number = c.number-number in
     puts_refused c.args.why _ _ number.ensures place.ensures p.puts
-

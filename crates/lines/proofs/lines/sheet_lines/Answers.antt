@@ -5,7 +5,6 @@ use native.Mathlib.Omega.{arith}
 use Rattle.lines.specs.Text.{members_word, line_of}
 use Rattle.lines.proofs.Puts.{puts_on}
 use Rattle.lines.proofs.Laws.{puts_as}
-use borrow.Author.Rules.{rules}
 use Rattle.lines.proofs.lines.sheet_lines.Goals as goal
 
 pub returns : goal.returns
@@ -18,4 +17,3 @@ returns c =
       puts = puts_on (puts_on first.puts second.puts) (puts_as members third.puts);
       upper_bound = omega (arith, first.upper_bound, second.upper_bound, third.upper_bound, c.requires);
     }
-

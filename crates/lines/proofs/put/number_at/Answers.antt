@@ -5,7 +5,6 @@ use Prim.Native.Nat.{ℕ, ◌+◌, ◌-◌, ◌≤◌}
 use native.Mathlib.Omega.{arith}
 use lib.ListN.{length, get_or, get_or-append}
 use lib.Seq.{get_or-append-add}
-use borrow.Author.Rules.{rules}
 use Rattle.lines.proofs.put.number_at.Goals as goal
 
 -- NO NEED overflow-cast-result
@@ -19,4 +18,3 @@ past xs ys i h = let e : length xs + (i - length xs) ≡ i = omega arith in sym 
 
 pub returns-else-i-few : goal.returns-else-i-few
 returns-else-i-few c = let a = c.args in past a.few.now a.states.now a.i (omega arith)
-

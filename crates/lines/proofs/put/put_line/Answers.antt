@@ -1,12 +1,11 @@
 -- the word, number after number, and the end of the line.
 use mathlib.Core.Path.{◌≡◌}
 use mathlib.Core.List.{◌++◌}
-use Prim.Native.Nat.{◌+◌, ◌-◌, ◌*◌, ◌≤◌}
+use Prim.Native.Nat.{◌+◌, ◌*◌, ◌≤◌}
 use Rattle.lines.specs.Text.{line_of}
 use native.Mathlib.Omega.{arith}
 use lib.ListN.{length, length-append}
-use borrow.Author.Rules.{rules}
-use Rattle.lines.specs.Puts.{Puts, Begun}
+use Rattle.lines.specs.Puts.{Puts}
 use Rattle.lines.proofs.Puts.{begun, begun_on, line_room, line_done, puts_length}
 use Rattle.lines.proofs.put.put_line.Goals as goal
 
@@ -54,4 +53,3 @@ returns c =
       puts = said;
       upper_bound = omega (arith, room, c.loop-i.invariant.upto);
     }
-

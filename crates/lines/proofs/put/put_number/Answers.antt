@@ -3,7 +3,7 @@ use mathlib.Core.List.{◌∷◌}
 use Prim.Native.Nat.{◌+◌, ◌≤◌}
 use Rattle.lines.specs.Text.{decimal_of}
 use Rattle.lines.specs.Puts.{Puts}
-use Rattle.lines.proofs.Puts.{puts_length, digits_fit, puts_number}
+use Rattle.lines.proofs.Puts.{digits_fit, puts_number}
 use Rattle.lines.proofs.put.put_number.Goals as goal
 
 pub put_text-requires : goal.put_text-requires
@@ -20,4 +20,3 @@ returns c =
       puts = said.0;
       upper_bound = said.1;
     }
-

@@ -1,12 +1,6 @@
 -- byte after byte, each after the ones before.
-use mathlib.Core.List.{List}
-use Prim.Native.Nat.{ℕ, ◌+◌, ◌-◌, ◌≤◌}
 use native.Mathlib.Omega.{arith}
-use lib.ListN.{length, take}
-use borrow.Author.Rules.{rules}
-use Rattle.lines.specs.Puts.{Puts}
 use Rattle.lines.proofs.Puts.{puts_none, puts_byte, puts_all, puts_length}
-use Rattle.lines.proofs.put.put_text.Invariants.{Copied}
 use Rattle.lines.proofs.put.put_text.Goals as goal
 
 pub loop-i-init : goal.loop-i-init
@@ -20,4 +14,3 @@ loop-i-preserved c = let l = c.loop-i.invariant in record { done = puts_byte _ _
 
 pub returns : goal.returns
 returns c = puts_all _ _ _ c.loop-i.invariant.done (omega arith)
-

@@ -1,11 +1,8 @@
 -- What the loop keeps.
 use mathlib.Core.List.{List}
 use Prim.Native.Nat.{ℕ, ◌+◌, ◌-◌, ◌≤◌}
-use native.Mathlib.Omega.{arith}
 use lib.ListN.{length, take}
-use borrow.Author.Rules.{rules}
 use Rattle.lines.specs.Puts.{Puts}
-use Rattle.lines.proofs.Puts.{puts_none, puts_byte, puts_all, puts_length}
 use Rattle.lines.proofs.put.put_text.Given as goal
 
 -- the first i bytes of the text are written
@@ -18,4 +15,3 @@ invariant-loop-i l = Copied l.text l.at l.initial.out l.i l.out
 
 abbrev pub decreases-loop-i : goal.decreases-loop-i
 decreases-loop-i l = length l.text - l.i
-

@@ -1,12 +1,9 @@
 -- it counts the letters that the climb passes.
-use mathlib.Core.Path.{◌≡◌, refl, ap}
-use mathlib.Core.List.{List, []}
-use Prim.Native.Nat.{ℕ, ◌+◌, ◌≤◌}
+use mathlib.Core.Path.{refl, ap}
+use mathlib.Core.List.{[]}
 use native.Mathlib.Omega.{arith}
 use lib.ListN.{length}
-use Rattle.order.specs.Word.{Word}
-use Rattle.search.specs.Climb.{Climbing, climb_begins, climb_down, climb_goes_on, climb_ends}
-use Rattle.search.proofs.climb.path_length.Invariants.{Counting}
+use Rattle.search.specs.Climb.{climb_begins, climb_down, climb_goes_on, climb_ends}
 use Rattle.search.proofs.climb.path_length.Goals as goal
 
 pub loop-slots-init : goal.loop-slots-init
@@ -41,4 +38,3 @@ loop-slots-preserved c =
           let (done, p, e) = l.invariant.passed label in
           (_, climb_goes_on k l.i (omega arith) c.at-x.ensures c.at-origin.ensures p c.if-origin-lt2.false, omega arith);
     }
-

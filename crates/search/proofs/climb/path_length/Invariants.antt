@@ -1,11 +1,10 @@
 -- What the loop keeps.
-use mathlib.Core.Path.{◌≡◌, refl, ap}
-use mathlib.Core.List.{List, []}
+use mathlib.Core.Path.{◌≡◌}
+use mathlib.Core.List.{List}
 use Prim.Native.Nat.{ℕ, ◌+◌, ◌≤◌}
-use native.Mathlib.Omega.{arith}
 use lib.ListN.{length}
 use Rattle.order.specs.Word.{Word}
-use Rattle.search.specs.Climb.{Climbing, climb_begins, climb_down, climb_goes_on, climb_ends}
+use Rattle.search.specs.Climb.{Climbing}
 use Rattle.search.proofs.climb.path_length.Given as goal
 
 pub record Counting (w : List ℕ) (S head i len : ℕ) : Type 0 where
@@ -19,4 +18,3 @@ invariant-loop-slots l = Counting l.work l.slots l.head l.i l.len
 
 abbrev pub decreases-loop-slots : goal.decreases-loop-slots
 decreases-loop-slots l = l.i
-

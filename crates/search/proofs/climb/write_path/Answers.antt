@@ -15,12 +15,11 @@ use Rattle.recorder.specs.declared.Record.{Record}
 use Rattle.writing.specs.Placed.{write_down}
 use Rattle.search.specs.Workspace.{origin_at, slot_at}
 use Rattle.search.specs.Report.{halves, odds, number_half, number_odd}
-use Rattle.search.specs.Climb.{Climbs, Climbing, label_of, path_by, climb_begins, climb_down, climb_goes_on, climb_ends, climb_left}
+use Rattle.search.specs.Climb.{Climbs, label_of, path_by, climb_begins, climb_down, climb_goes_on, climb_ends, climb_left}
 use Rattle.search.proofs.climb.write_path.Invariants.{Written, Writing}
 use Rattle.search.proofs.climb.write_path.Goals as goal
 
 module _ (report₀ : List ℕ) (len : ℕ) (h : len ≤ length report₀) where
-
   none_written : Written report₀ len [] report₀ len 0
   unfolding halves odds
   none_written = record { left_is = omega arith; report-is = sym (take-append-drop len report₀); unsaved_is = refl; unsaved-to = omega arith; same_length = refl }
@@ -48,7 +47,6 @@ byte_is_bit false = refl
 
 module _ {w report₀ : List ℕ} {S n m head len i : ℕ} {report : List ℕ} {left unsaved : ℕ} (k : Climbs w S head)
     (whole : (len ≡ length (path_by (label_of n m) S w head)) × (len ≤ length report₀)) (g : Writing w report₀ S n m head len i report left unsaved) where
-
   -- a word is left for the letter at i
   some_left : 0 < left
   some_left = omega (arith, climb_left k i g.down refl refl g.passed, whole.0, g.written.left_is)
@@ -146,4 +144,3 @@ loop-slots-preserved c =
     let l = c.loop-slots in
     let p = c.requires in
     goes_on p.climbs p.len_value l.invariant c.at-x.ensures c.of_slot-r.ensures c.at-origin.ensures c.if-origin-lt2.false
-

@@ -1,20 +1,11 @@
 -- What the loop keeps.
-use mathlib.Core.Path.{◌≡◌, refl, sym, ap, ◌∙◌}
-use mathlib.Core.Bool.{Bool, true, false, cond}
-use mathlib.Core.List.{List, [], ◌∷◌, ◌++◌}
-use Prim.Native.Nat.{ℕ, ◌+◌, ◌-◌, ◌/◌, ◌%◌, ◌≤◌, ◌<◌}
-use native.Mathlib.Omega.{arith}
-use lib.Dec.{eqb}
-use mir.Val.{bool_byte}
-use lib.ListN.{length, set, take, drop, length-set, take-append-drop}
+use mathlib.Core.Path.{◌≡◌}
+use mathlib.Core.List.{List, ◌++◌}
+use Prim.Native.Nat.{ℕ, ◌+◌, ◌≤◌}
+use lib.ListN.{length, take, drop}
 use Rattle.order.specs.Word.{Word}
-use Rattle.recorder.specs.Slots.{record_of_slot}
-use Rattle.recorder.proofs.Slots.{record_in, bit_lt}
-use Rattle.recorder.specs.declared.Record.{Record}
-use Rattle.writing.specs.Placed.{write_down}
-use Rattle.search.specs.Workspace.{origin_at, slot_at}
-use Rattle.search.specs.Report.{halves, odds, number_half, number_odd}
-use Rattle.search.specs.Climb.{Climbs, Climbing, label_of, path_by, climb_begins, climb_down, climb_goes_on, climb_ends, climb_left}
+use Rattle.search.specs.Report.{halves, odds}
+use Rattle.search.specs.Climb.{Climbing, label_of}
 use Rattle.search.proofs.climb.write_path.Given as goal
 
 -- The letters `done` are written into the words from left up to len, and counted.
@@ -38,4 +29,3 @@ invariant-loop-slots l = Writing l.work l.initial.report l.slots l.n l.m l.head 
 
 abbrev pub decreases-loop-slots : goal.decreases-loop-slots
 decreases-loop-slots l = l.i
-

@@ -3,7 +3,6 @@ use mathlib.Core.Path.{refl}
 use Prim.Native.Nat.{◌<◌}
 use native.Mathlib.Omega.{arith}
 use lib.ListN.{length-set}
-use borrow.Author.Rules.{rules}
 use Rattle.search.specs.Workspace.{room_left}
 use Rattle.search.proofs.meet.meet.Goals as goal
 
@@ -32,4 +31,3 @@ overflow_add-result c =
 
 pub returns : goal.returns
 returns c = record { was_met = λ h. absurd (omega (arith, c.if-work-x-ne0.false)); is_new = λ e. (refl, refl) }
-

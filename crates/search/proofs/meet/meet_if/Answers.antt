@@ -1,7 +1,6 @@
 -- by the test, it is `meet` or nothing.
 use mathlib.Core.Path.{refl, sym, ◌∙◌}
 use mathlib.Core.Bool.{true≢false}
-use borrow.Author.Rules.{rules}
 use Rattle.search.proofs.meet.meet_if.Goals as goal
 
 pub returns-then-wanted : goal.returns-then-wanted
@@ -9,4 +8,3 @@ returns-then-wanted c = record { is_wanted = λ e. c.meet.ensures; is_not = λ e
 
 pub returns : goal.returns
 returns c = record { is_wanted = λ e. absurd (true≢false (sym e ∙ c.if-wanted.false)); is_not = λ e. (refl, refl) }
-

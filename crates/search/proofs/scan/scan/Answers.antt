@@ -1,9 +1,7 @@
 -- each fact that the walk of its code leaves is answered by what is known at its place and the laws of specs/Follow.antt.
 use mathlib.Core.Path.{◌≡◌, sym, ap, ap₂, ◌∙◌}
 use mathlib.Core.Bool.{Bool, true, false, true≢false}
-use mathlib.Core.Logic.{◌⊎◌, ⊎_elim}
-use mathlib.Core.List.{List}
-use Prim.Native.Nat.{ℕ, suc, ◌+◌, ◌-◌, ◌<◌}
+use Prim.Native.Nat.{ℕ, suc, ◌+◌, ◌<◌}
 use native.Mathlib.Numerals.{add-one}
 use native.Mathlib.Omega.{arith}
 use lib.Dec.{eqb}
@@ -11,7 +9,7 @@ use lib.ListN.{get_or}
 use Rattle.recorder.specs.Flag.{live_flag}
 use Rattle.recorder.specs.Recorder.{step_of, bad_of}
 use Rattle.recorder.specs.Slots.{record_of_slot}
-use Rattle.recorder.specs.SlotGraph.{at, slot}
+use Rattle.recorder.specs.SlotGraph.{at}
 use Rattle.recorder.proofs.SlotGraph.{at_next}
 use Rattle.recorder.specs.Says.{Leaves, StepSays}
 use Rattle.recorder.specs.declared.Record.{Record}
@@ -25,16 +23,16 @@ use Rattle.search.specs.Scan.{ScanAsks}
 use Rattle.table.specs.Recording.{slots_of, graph_of, next_of, state_of, from_of, to_of}
 use Rattle.table.proofs.Recording.{block_states, block_sets, state_in, step_slot}
 use Rattle.search.specs.Follow.{Turned, edge_there, first_asks, turned_stops, turned_on}
-use Rattle.search.specs.Scanning.{Waiting, Within, Left, left_ended, left_stopped}
+use Rattle.search.specs.Scanning.{Left, left_ended, left_stopped}
 use mathlib.Core.Bool.{true, false}
-use Prim.Native.Nat.{◌+◌, ◌-◌}
+use Prim.Native.Nat.{◌+◌}
 use Rattle.table.proofs.Inside.{row_inside, target_inside, mark_inside}
 use Rattle.search.specs.Meet.{rest_same, rest_trans, asks_as}
 use Rattle.table.proofs.Row.{row_to_lem}
 use Rattle.table.specs.Recording.{state_of}
 use Rattle.table.proofs.Recording.{slots_few, state_in, step_range}
 use Rattle.search.specs.Follow.{turned_begins, turned_ends, first_asks, other_asks}
-use Rattle.search.specs.Scanning.{ended, stopped, left_same}
+use Rattle.search.specs.Scanning.{ended, stopped}
 use Rattle.search.proofs.scan.scan.Goals as goal
 use Rattle.search.proofs.scan.scan.Goals.{else-queue-test, then-queue-test+then-loop-i-test+then-is_bad}
 
@@ -207,10 +205,10 @@ slot-y-requires c =
     let step-at : Bool → Record = λ wish. step_of live_flag (block_of bytes-at) (at (block_of bytes-at) x-at) target_at wish in
     let leaves : Leaves (block_of bytes-at) c.of_slot-r.result table_at.states
     c.has_goal-goal.result c.fair-fair.result = record {
-  states = block_states bytes-at ∙ sym asks.laid.states_are;
-  goal_is = sym c.has_goal-goal.ensures;
-  fair_is = sym c.fair-fair.ensures;
-} in
+      states = block_states bytes-at ∙ sym asks.laid.states_are;
+      goal_is = sym c.has_goal-goal.ensures;
+      fair_is = sym c.fair-fair.ensures;
+    } in
     let step_is : (wish : Bool) (next : ℕ) (r : Record) → next ≡ target_at
     → StepSays c.of_slot-r.result table_at.states c.has_goal-goal.result c.fair-fair.result next wish r
     → r ≡ step-at wish = λ wish next r e says. says _ leaves ∙ ap₂ (λ (q : Record) (s : ℕ). step_of live_flag (block_of bytes-at) q s wish) r-is e in
@@ -252,10 +250,10 @@ meet-tail-requires c =
     let step-at : Bool → Record = λ wish. step_of live_flag (block_of bytes-at) (at (block_of bytes-at) x-at) target_at wish in
     let leaves : Leaves (block_of bytes-at) c.of_slot-r.result table_at.states
     c.has_goal-goal.result c.fair-fair.result = record {
-  states = block_states bytes-at ∙ sym asks.laid.states_are;
-  goal_is = sym c.has_goal-goal.ensures;
-  fair_is = sym c.fair-fair.ensures;
-} in
+      states = block_states bytes-at ∙ sym asks.laid.states_are;
+      goal_is = sym c.has_goal-goal.ensures;
+      fair_is = sym c.fair-fair.ensures;
+    } in
     let step_is : (wish : Bool) (next : ℕ) (r : Record) → next ≡ target_at
     → StepSays c.of_slot-r.result table_at.states c.has_goal-goal.result c.fair-fair.result next wish r
     → r ≡ step-at wish = λ wish next r e says. says _ leaves ∙ ap₂ (λ (q : Record) (s : ℕ). step_of live_flag (block_of bytes-at) q s wish) r-is e in
@@ -286,10 +284,10 @@ slot-z-requires c =
     let step-at : Bool → Record = λ wish. step_of live_flag (block_of bytes-at) (at (block_of bytes-at) x-at) target_at wish in
     let leaves : Leaves (block_of bytes-at) c.of_slot-r.result table_at.states
     c.has_goal-goal.result c.fair-fair.result = record {
-  states = block_states bytes-at ∙ sym asks.laid.states_are;
-  goal_is = sym c.has_goal-goal.ensures;
-  fair_is = sym c.fair-fair.ensures;
-} in
+      states = block_states bytes-at ∙ sym asks.laid.states_are;
+      goal_is = sym c.has_goal-goal.ensures;
+      fair_is = sym c.fair-fair.ensures;
+    } in
     let step_is : (wish : Bool) (next : ℕ) (r : Record) → next ≡ target_at
     → StepSays c.of_slot-r.result table_at.states c.has_goal-goal.result c.fair-fair.result next wish r
     → r ≡ step-at wish = λ wish next r e says. says _ leaves ∙ ap₂ (λ (q : Record) (s : ℕ). step_of live_flag (block_of bytes-at) q s wish) r-is e in
@@ -325,10 +323,10 @@ meet_if-tail-requires c =
     let step-at : Bool → Record = λ wish. step_of live_flag (block_of bytes-at) (at (block_of bytes-at) x-at) target_at wish in
     let leaves : Leaves (block_of bytes-at) c.of_slot-r.result table_at.states
     c.has_goal-goal.result c.fair-fair.result = record {
-  states = block_states bytes-at ∙ sym asks.laid.states_are;
-  goal_is = sym c.has_goal-goal.ensures;
-  fair_is = sym c.fair-fair.ensures;
-} in
+      states = block_states bytes-at ∙ sym asks.laid.states_are;
+      goal_is = sym c.has_goal-goal.ensures;
+      fair_is = sym c.fair-fair.ensures;
+    } in
     let step_is : (wish : Bool) (next : ℕ) (r : Record) → next ≡ target_at
     → StepSays c.of_slot-r.result table_at.states c.has_goal-goal.result c.fair-fair.result next wish r
     → r ≡ step-at wish = λ wish next r e says. says _ leaves ∙ ap₂ (λ (q : Record) (s : ℕ). step_of live_flag (block_of bytes-at) q s wish) r-is e in
@@ -386,10 +384,10 @@ loop-i-preserved c =
     let step-at : Bool → Record = λ wish. step_of live_flag (block_of bytes-at) (at (block_of bytes-at) x-at) target_at wish in
     let leaves : Leaves (block_of bytes-at) c.of_slot-r.result table_at.states
     c.has_goal-goal.result c.fair-fair.result = record {
-  states = block_states bytes-at ∙ sym asks.laid.states_are;
-  goal_is = sym c.has_goal-goal.ensures;
-  fair_is = sym c.fair-fair.ensures;
-} in
+      states = block_states bytes-at ∙ sym asks.laid.states_are;
+      goal_is = sym c.has_goal-goal.ensures;
+      fair_is = sym c.fair-fair.ensures;
+    } in
     let step_is : (wish : Bool) (next : ℕ) (r : Record) → next ≡ target_at
     → StepSays c.of_slot-r.result table_at.states c.has_goal-goal.result c.fair-fair.result next wish r
     → r ≡ step-at wish = λ wish next r e says. says _ leaves ∙ ap₂ (λ (q : Record) (s : ℕ). step_of live_flag (block_of bytes-at) q s wish) r-is e in
@@ -457,37 +455,37 @@ returns-then-bad-slots c =
     let head_of = c.queue.head in
     let x-at = get_or c.queue.work (c.args.slots + c.queue.head) 0 in
     let left : Left live_flag bytes-at c.args.slots c.args.work.now c.queue-test.work c.queue-test.bad head_of = elim c.queue-test.branch [
-      else-queue-test w ↦ left_ended c.requires.slots_are c.queue.invariant w.queue-test.false w.work-is w.bad-is
+      | else-queue-test w ↦ left_ended c.requires.slots_are c.queue.invariant w.queue-test.false w.work-is w.bad-is
       | then-queue-test+then-loop-i-test+then-is_bad w ↦
-            let turned-at : Turned live_flag bytes-at w.loop-i.work head_of w.loop-i.tail x-at w.loop-i.i = w.loop-i.invariant.turned in
-            let r-is : w.of_slot-r.result ≡ at (block_of bytes-at) x-at = let l = asks.laid in
-            w.of_slot-r.ensures ∙ ap₂ (λ (n m : ℕ). record_of_slot n m x-at) l.states_are l.sets_are in
-            let to_is : w.row_start-to.result ≡ to_of bytes-at x-at = w.row_start-to.ensures
-            ∙ ap (row_start bytes-at) (add-one w.of_slot-r.result.s)
-            ∙ ap (λ (r : Record). row_start bytes-at (suc r.s)) r-is in
-            let below-to : w.loop-i.i < to_of bytes-at x-at = omega (arith, w.loop-i-test.true, to_is) in
-            let target_at = target bytes-at w.loop-i.i in
-            let next-at : Bool → ℕ = λ wish. next_of live_flag bytes-at x-at target_at wish in
-            let step-at : Bool → Record = λ wish. step_of live_flag (block_of bytes-at) (at (block_of bytes-at) x-at) target_at wish in
-            let leaves : Leaves (block_of bytes-at) w.of_slot-r.result table_at.states
-            w.has_goal-goal.result w.fair-fair.result = record {
+          let turned-at : Turned live_flag bytes-at w.loop-i.work head_of w.loop-i.tail x-at w.loop-i.i = w.loop-i.invariant.turned in
+          let r-is : w.of_slot-r.result ≡ at (block_of bytes-at) x-at = let l = asks.laid in
+          w.of_slot-r.ensures ∙ ap₂ (λ (n m : ℕ). record_of_slot n m x-at) l.states_are l.sets_are in
+          let to_is : w.row_start-to.result ≡ to_of bytes-at x-at = w.row_start-to.ensures
+          ∙ ap (row_start bytes-at) (add-one w.of_slot-r.result.s)
+          ∙ ap (λ (r : Record). row_start bytes-at (suc r.s)) r-is in
+          let below-to : w.loop-i.i < to_of bytes-at x-at = omega (arith, w.loop-i-test.true, to_is) in
+          let target_at = target bytes-at w.loop-i.i in
+          let next-at : Bool → ℕ = λ wish. next_of live_flag bytes-at x-at target_at wish in
+          let step-at : Bool → Record = λ wish. step_of live_flag (block_of bytes-at) (at (block_of bytes-at) x-at) target_at wish in
+          let leaves : Leaves (block_of bytes-at) w.of_slot-r.result table_at.states
+          w.has_goal-goal.result w.fair-fair.result = record {
             states = block_states bytes-at ∙ sym asks.laid.states_are;
             goal_is = sym w.has_goal-goal.ensures;
             fair_is = sym w.fair-fair.ensures;
-            } in
-            let step_is : (wish : Bool) (next : ℕ) (r : Record) → next ≡ target_at
-            → StepSays w.of_slot-r.result table_at.states w.has_goal-goal.result w.fair-fair.result next wish r
-            → r ≡ step-at wish = λ wish next r e says. says _ leaves ∙ ap₂ (λ (q : Record) (s : ℕ). step_of live_flag (block_of bytes-at) q s wish) r-is e in
-            let saving-is : w.step-saving.result ≡ step-at true = step_is true _ _ w.target-next.ensures w.step-saving.ensures in
-            let y-is : w.slot-y.result ≡ next-at true = step_slot live_flag _ _ asks.laid _ _ true _ saving-is _ w.slot-y.ensures in
-            let edge_at : (block_of bytes-at).edge (state_of bytes-at x-at) target_at ≡ true = edge_there live_flag _ asks.formed _ _ _ _ _ turned-at below-to in
-            let bad-is : w.is_bad.result ≡ bad_of (block_of bytes-at) (at (block_of bytes-at) (next-at true)) = let B = block_of bytes-at in
-            w.is_bad.ensures B (block_sets bytes-at ∙ sym asks.laid.sets_are)
-            ∙ ap (bad_of B) (saving-is ∙ sym (at_next live_flag B (sound bytes-at asks.formed) x-at target_at true edge_at)) in
-            left_stopped asks.slots_are (first_asks live_flag _ asks.formed _ _ _ _ _ turned-at below-to).slot_in
-            (rest_trans c.queue.invariant.same w.loop-i.invariant.same)
-            (turned_stops live_flag _ asks.formed _ _ _ _ _ turned-at below-to (sym bad-is ∙ w.if-is_bad.true))
-            w.work-is (w.bad-is ∙ y-is)
+          } in
+          let step_is : (wish : Bool) (next : ℕ) (r : Record) → next ≡ target_at
+          → StepSays w.of_slot-r.result table_at.states w.has_goal-goal.result w.fair-fair.result next wish r
+          → r ≡ step-at wish = λ wish next r e says. says _ leaves ∙ ap₂ (λ (q : Record) (s : ℕ). step_of live_flag (block_of bytes-at) q s wish) r-is e in
+          let saving-is : w.step-saving.result ≡ step-at true = step_is true _ _ w.target-next.ensures w.step-saving.ensures in
+          let y-is : w.slot-y.result ≡ next-at true = step_slot live_flag _ _ asks.laid _ _ true _ saving-is _ w.slot-y.ensures in
+          let edge_at : (block_of bytes-at).edge (state_of bytes-at x-at) target_at ≡ true = edge_there live_flag _ asks.formed _ _ _ _ _ turned-at below-to in
+          let bad-is : w.is_bad.result ≡ bad_of (block_of bytes-at) (at (block_of bytes-at) (next-at true)) = let B = block_of bytes-at in
+          w.is_bad.ensures B (block_sets bytes-at ∙ sym asks.laid.sets_are)
+          ∙ ap (bad_of B) (saving-is ∙ sym (at_next live_flag B (sound bytes-at asks.formed) x-at target_at true edge_at)) in
+          left_stopped asks.slots_are (first_asks live_flag _ asks.formed _ _ _ _ _ turned-at below-to).slot_in
+          (rest_trans c.queue.invariant.same w.loop-i.invariant.same)
+          (turned_stops live_flag _ asks.formed _ _ _ _ _ turned-at below-to (sym bad-is ∙ w.if-is_bad.true))
+          w.work-is (w.bad-is ∙ y-is)
     ] in
     elim left [ ended e s k ↦ absurd (omega (arith, c.if-bad-slots.true)) | stopped l s k ↦ record { same = s; seen = k } ]
 
@@ -500,36 +498,36 @@ returns c =
     let head_of = c.queue.head in
     let x-at = get_or c.queue.work (c.args.slots + c.queue.head) 0 in
     let left : Left live_flag bytes-at c.args.slots c.args.work.now c.queue-test.work c.queue-test.bad head_of = elim c.queue-test.branch [
-      else-queue-test w ↦ left_ended c.requires.slots_are c.queue.invariant w.queue-test.false w.work-is w.bad-is
+      | else-queue-test w ↦ left_ended c.requires.slots_are c.queue.invariant w.queue-test.false w.work-is w.bad-is
       | then-queue-test+then-loop-i-test+then-is_bad w ↦
-            let turned-at : Turned live_flag bytes-at w.loop-i.work head_of w.loop-i.tail x-at w.loop-i.i = w.loop-i.invariant.turned in
-            let r-is : w.of_slot-r.result ≡ at (block_of bytes-at) x-at = let l = asks.laid in
-            w.of_slot-r.ensures ∙ ap₂ (λ (n m : ℕ). record_of_slot n m x-at) l.states_are l.sets_are in
-            let to_is : w.row_start-to.result ≡ to_of bytes-at x-at = w.row_start-to.ensures
-            ∙ ap (row_start bytes-at) (add-one w.of_slot-r.result.s)
-            ∙ ap (λ (r : Record). row_start bytes-at (suc r.s)) r-is in
-            let below-to : w.loop-i.i < to_of bytes-at x-at = omega (arith, w.loop-i-test.true, to_is) in
-            let target_at = target bytes-at w.loop-i.i in
-            let next-at : Bool → ℕ = λ wish. next_of live_flag bytes-at x-at target_at wish in
-            let step-at : Bool → Record = λ wish. step_of live_flag (block_of bytes-at) (at (block_of bytes-at) x-at) target_at wish in
-            let leaves : Leaves (block_of bytes-at) w.of_slot-r.result table_at.states
-            w.has_goal-goal.result w.fair-fair.result = record {
+          let turned-at : Turned live_flag bytes-at w.loop-i.work head_of w.loop-i.tail x-at w.loop-i.i = w.loop-i.invariant.turned in
+          let r-is : w.of_slot-r.result ≡ at (block_of bytes-at) x-at = let l = asks.laid in
+          w.of_slot-r.ensures ∙ ap₂ (λ (n m : ℕ). record_of_slot n m x-at) l.states_are l.sets_are in
+          let to_is : w.row_start-to.result ≡ to_of bytes-at x-at = w.row_start-to.ensures
+          ∙ ap (row_start bytes-at) (add-one w.of_slot-r.result.s)
+          ∙ ap (λ (r : Record). row_start bytes-at (suc r.s)) r-is in
+          let below-to : w.loop-i.i < to_of bytes-at x-at = omega (arith, w.loop-i-test.true, to_is) in
+          let target_at = target bytes-at w.loop-i.i in
+          let next-at : Bool → ℕ = λ wish. next_of live_flag bytes-at x-at target_at wish in
+          let step-at : Bool → Record = λ wish. step_of live_flag (block_of bytes-at) (at (block_of bytes-at) x-at) target_at wish in
+          let leaves : Leaves (block_of bytes-at) w.of_slot-r.result table_at.states
+          w.has_goal-goal.result w.fair-fair.result = record {
             states = block_states bytes-at ∙ sym asks.laid.states_are;
             goal_is = sym w.has_goal-goal.ensures;
             fair_is = sym w.fair-fair.ensures;
-            } in
-            let step_is : (wish : Bool) (next : ℕ) (r : Record) → next ≡ target_at
-            → StepSays w.of_slot-r.result table_at.states w.has_goal-goal.result w.fair-fair.result next wish r
-            → r ≡ step-at wish = λ wish next r e says. says _ leaves ∙ ap₂ (λ (q : Record) (s : ℕ). step_of live_flag (block_of bytes-at) q s wish) r-is e in
-            let saving-is : w.step-saving.result ≡ step-at true = step_is true _ _ w.target-next.ensures w.step-saving.ensures in
-            let y-is : w.slot-y.result ≡ next-at true = step_slot live_flag _ _ asks.laid _ _ true _ saving-is _ w.slot-y.ensures in
-            let edge_at : (block_of bytes-at).edge (state_of bytes-at x-at) target_at ≡ true = edge_there live_flag _ asks.formed _ _ _ _ _ turned-at below-to in
-            let bad-is : w.is_bad.result ≡ bad_of (block_of bytes-at) (at (block_of bytes-at) (next-at true)) = let B = block_of bytes-at in
-            w.is_bad.ensures B (block_sets bytes-at ∙ sym asks.laid.sets_are)
-            ∙ ap (bad_of B) (saving-is ∙ sym (at_next live_flag B (sound bytes-at asks.formed) x-at target_at true edge_at)) in
-            left_stopped asks.slots_are (first_asks live_flag _ asks.formed _ _ _ _ _ turned-at below-to).slot_in
-            (rest_trans c.queue.invariant.same w.loop-i.invariant.same)
-            (turned_stops live_flag _ asks.formed _ _ _ _ _ turned-at below-to (sym bad-is ∙ w.if-is_bad.true))
-            w.work-is (w.bad-is ∙ y-is)
+          } in
+          let step_is : (wish : Bool) (next : ℕ) (r : Record) → next ≡ target_at
+          → StepSays w.of_slot-r.result table_at.states w.has_goal-goal.result w.fair-fair.result next wish r
+          → r ≡ step-at wish = λ wish next r e says. says _ leaves ∙ ap₂ (λ (q : Record) (s : ℕ). step_of live_flag (block_of bytes-at) q s wish) r-is e in
+          let saving-is : w.step-saving.result ≡ step-at true = step_is true _ _ w.target-next.ensures w.step-saving.ensures in
+          let y-is : w.slot-y.result ≡ next-at true = step_slot live_flag _ _ asks.laid _ _ true _ saving-is _ w.slot-y.ensures in
+          let edge_at : (block_of bytes-at).edge (state_of bytes-at x-at) target_at ≡ true = edge_there live_flag _ asks.formed _ _ _ _ _ turned-at below-to in
+          let bad-is : w.is_bad.result ≡ bad_of (block_of bytes-at) (at (block_of bytes-at) (next-at true)) = let B = block_of bytes-at in
+          w.is_bad.ensures B (block_sets bytes-at ∙ sym asks.laid.sets_are)
+          ∙ ap (bad_of B) (saving-is ∙ sym (at_next live_flag B (sound bytes-at asks.formed) x-at target_at true edge_at)) in
+          left_stopped asks.slots_are (first_asks live_flag _ asks.formed _ _ _ _ _ turned-at below-to).slot_in
+          (rest_trans c.queue.invariant.same w.loop-i.invariant.same)
+          (turned_stops live_flag _ asks.formed _ _ _ _ _ turned-at below-to (sym bad-is ∙ w.if-is_bad.true))
+          w.work-is (w.bad-is ∙ y-is)
     ] in
     elim left [ ended e s k ↦ record { same = s; seen = k } | stopped l s k ↦ absurd (omega (arith, c.if-bad-slots.false)) ]

@@ -1,19 +1,16 @@
 -- at state s the starts below s are queued (`Starting`), and the laws of specs/Starts.antt say what
 -- meeting the slot of state s asks and gives.
 use mathlib.Core.Path.{◌≡◌, sym, ◌∙◌}
-use mathlib.Core.List.{List}
-use Prim.Native.Nat.{ℕ, ◌-◌, ◌≤◌, ◌<◌, zero-le}
+use Prim.Native.Nat.{◌<◌, zero-le}
 use native.Mathlib.Omega.{arith}
 use Rattle.recorder.specs.Flag.{live_flag}
 use Rattle.recorder.specs.Recorder.{start_of}
 use Rattle.table.specs.Layout.{states_of}
 use Rattle.table.specs.BlockOf.{block_of}
 use Rattle.table.proofs.Inside.{mark_inside}
-use Rattle.table.specs.Recording.{slots_of}
 use Rattle.table.proofs.Recording.{start_slot, block_states, made_range, made_slot}
-use Rattle.search.specs.Meet.{SameRest, rest_same, rest_trans, meets_if, asks_as, if_says_as}
-use Rattle.search.specs.Starts.{StartsAsk, Starting, starting_begins, start_asks, starting_on, starting_ends}
-use Rattle.search.proofs.starts.queue_starts.Invariants.{Queueing}
+use Rattle.search.specs.Meet.{rest_same, rest_trans, meets_if, asks_as, if_says_as}
+use Rattle.search.specs.Starts.{StartsAsk, starting_begins, start_asks, starting_on, starting_ends}
 use Rattle.search.proofs.starts.queue_starts.Goals as goal
 
 pub loop-s-init : goal.loop-s-init
@@ -80,4 +77,3 @@ returns c =
     let v = c.loop-s.invariant in
     let e : c.loop-s.s ≡ states_of c.args.bytes.now = omega (arith, v.to, c.loop-s-test.false, p.laid.states_are) in
     rw p.slots_are (record { kept = v.starting.kept; same = v.same; between = starting_ends live_flag _ p.formed _ _ _ v.starting e })
-

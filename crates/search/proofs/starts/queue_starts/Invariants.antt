@@ -1,17 +1,11 @@
 -- What the loop keeps.
-use mathlib.Core.Path.{◌≡◌, sym, ◌∙◌}
 use mathlib.Core.List.{List}
-use Prim.Native.Nat.{ℕ, ◌-◌, ◌≤◌, ◌<◌, zero-le}
-use native.Mathlib.Omega.{arith}
+use Prim.Native.Nat.{ℕ, ◌-◌, ◌≤◌}
 use Rattle.recorder.specs.Flag.{live_flag}
-use Rattle.recorder.specs.Recorder.{start_of}
 use Rattle.table.specs.Layout.{states_of}
-use Rattle.table.specs.BlockOf.{block_of}
-use Rattle.table.proofs.Inside.{mark_inside}
 use Rattle.table.specs.Recording.{slots_of}
-use Rattle.table.proofs.Recording.{start_slot, block_states, made_range, made_slot}
-use Rattle.search.specs.Meet.{SameRest, rest_same, rest_trans, meets_if, asks_as, if_says_as}
-use Rattle.search.specs.Starts.{StartsAsk, Starting, starting_begins, start_asks, starting_on, starting_ends}
+use Rattle.search.specs.Meet.{SameRest}
+use Rattle.search.specs.Starts.{Starting}
 use Rattle.search.proofs.starts.queue_starts.Given as goal
 
 pub record Queueing (b w₀ w : List ℕ) (tail s : ℕ) : Type 0 where
@@ -26,4 +20,3 @@ invariant-loop-s l = Queueing l.bytes l.initial.work l.work l.tail l.s
 
 abbrev pub decreases-loop-s : goal.decreases-loop-s
 decreases-loop-s l = l.n - l.s
-

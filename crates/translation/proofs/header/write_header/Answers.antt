@@ -1,5 +1,4 @@
 -- the seven numbers stand one after the other.
-use borrow.Author.Rules.{rules}
 use Rattle.writing.specs.Header.{header_written}
 use Rattle.translation.proofs.header.write_header.Goals as goal
 
@@ -7,4 +6,3 @@ pub returns : goal.returns
 returns c =
     header_written 2 c.args.slots c.args.edges 0 c.args.part.now c.requires.part_len c.put.ensures c.put-2.ensures c.put-3.ensures c.put-4.ensures
     c.put-5.ensures c.put-6.ensures c.put-7.ensures
-

@@ -4,7 +4,6 @@ use Prim.Native.Nat.{◌≤◌}
 use native.Mathlib.Omega.{arith}
 use lib.Dec.{eqb}
 use mir.Val.{bool_byte}
-use borrow.Author.Rules.{rules}
 use Rattle.recorder.specs.Flag.{live_flag}
 use Rattle.table.proofs.Inside.{mark_inside}
 use Rattle.translation.proofs.Asks.{state_below, first_is, first_range, mark_is, byte_small}
@@ -48,4 +47,3 @@ returns c =
     let e = first_is c.requires.asks c.requires.p_lt_slots c.start-first.ensures in
     mark_is c.requires.asks c.requires.p_lt_slots live_flag e c.slot-x.ensures
     c.is_start.ensures c.has_goal-goal.ensures c.is_bad-bad.ensures
-

@@ -1,10 +1,9 @@
 -- when slot p comes, its record is there and the marks of the slots below it
 -- are written (`Marking`).
-use Prim.Native.Nat.{◌-◌}
 use native.Mathlib.Omega.{arith}
 use Rattle.recorder.specs.Flag.{live_flag}
-use Rattle.translation.proofs.Asks.{Carries, record_range, next_is}
-use Rattle.translation.proofs.Writing.{Marking, marking_begins, marking_on, marking_ends}
+use Rattle.translation.proofs.Asks.{record_range, next_is}
+use Rattle.translation.proofs.Writing.{marking_begins, marking_on, marking_ends}
 use Rattle.translation.proofs.marks.write_marks.Goals as goal
 
 pub of_slot-r-requires : goal.of_slot-r-requires
@@ -35,4 +34,3 @@ loop-p-preserved c =
 
 pub returns : goal.returns
 returns c = marking_ends c.loop-p.invariant.written c.loop-p-test.false
-

@@ -1,13 +1,11 @@
 -- the row of the slot's state, counted once or twice.
 use mathlib.Core.Path.{◌≡◌}
 use mathlib.Core.Bool.{Bool}
-use mathlib.Core.List.{List}
-use Prim.Native.Nat.{ℕ, ◌+◌, ◌-◌, ◌*◌, ◌≤◌}
+use Prim.Native.Nat.{◌+◌, ◌-◌, ◌*◌, ◌≤◌}
 use native.Mathlib.Omega.{arith}
 use lib.ListN.{length}
 use lib.Dec.{eqb}
 use mir.Val.{bool_byte}
-use borrow.Author.Rules.{rules}
 use Rattle.recorder.specs.Flag.{live_flag}
 use Rattle.table.proofs.Inside.{row_inside}
 use Rattle.translation.specs.File.{row_of}
@@ -48,4 +46,3 @@ returns c =
     let row = row_of live_flag c.args.bytes.now c.args.p in
     let counted : (c.row_start-to.result - c.row_start-from.result) * (1 + bool_byte unsaved) ≡ length row = row_counted c.requires.asks c.requires.p_lt_slots live_flag c.row_start-from.ensures c.row_start-to.ensures in
     counted
-

@@ -1,11 +1,9 @@
 -- when slot p comes, its record is there, the row starts below it are written, and
 -- sum is where its own row starts (`Starting`).
-use Prim.Native.Nat.{◌-◌}
 use native.Mathlib.Omega.{arith}
-use borrow.Author.Rules.{rules}
 use Rattle.recorder.specs.Flag.{live_flag}
-use Rattle.translation.proofs.Writing.{Starting, starting_begins, starting_on, starting_ends}
-use Rattle.translation.proofs.Asks.{Carries, slots_small, starts_small, record_range, next_is}
+use Rattle.translation.proofs.Writing.{starting_begins, starting_on, starting_ends}
+use Rattle.translation.proofs.Asks.{slots_small, starts_small, record_range, next_is}
 use Rattle.translation.proofs.rows.write_rows.Goals as goal
 
 pub of_slot-r-requires : goal.of_slot-r-requires
@@ -56,4 +54,3 @@ put-requires-2 c = let v = c.loop-p.invariant.written in omega (arith, v.room, v
 
 pub returns : goal.returns
 returns c = starting_ends c.loop-p.invariant.written c.put-2.ensures c.loop-p-test.false
-

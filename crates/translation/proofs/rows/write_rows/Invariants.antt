@@ -1,10 +1,8 @@
 -- What the loop keeps.
 use Prim.Native.Nat.{◌-◌}
-use native.Mathlib.Omega.{arith}
-use borrow.Author.Rules.{rules}
 use Rattle.recorder.specs.Flag.{live_flag}
-use Rattle.translation.proofs.Writing.{Starting, starting_begins, starting_on, starting_ends}
-use Rattle.translation.proofs.Asks.{Carries, slots_small, starts_small, record_range, next_is}
+use Rattle.translation.proofs.Writing.{Starting}
+use Rattle.translation.proofs.Asks.{Carries}
 use Rattle.translation.proofs.rows.write_rows.Given as goal
 
 abbrev pub invariant-loop-p : goal.invariant-loop-p
@@ -12,4 +10,3 @@ invariant-loop-p l = Carries l.t l.p l.r (Starting live_flag l.bytes l.initial.p
 
 abbrev pub decreases-loop-p : goal.decreases-loop-p
 decreases-loop-p l = l.slots - l.p
-

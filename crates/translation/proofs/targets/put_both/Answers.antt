@@ -1,6 +1,5 @@
 -- one number, or one after the other.
 use native.Mathlib.Omega.{arith}
-use borrow.Author.Rules.{rules}
 use Rattle.translation.proofs.Writing.{one_put, both_room, both_put}
 use Rattle.translation.proofs.targets.put_both.Goals as goal
 
@@ -23,4 +22,3 @@ returns c =
       value = both.0;
       part_after = both.1;
     }
-

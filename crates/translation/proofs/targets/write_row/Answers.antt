@@ -1,8 +1,7 @@
 -- when target i comes, what the slot leads to along the targets before it is written (`Rowing`).
 use mathlib.Core.Path.{◌≡◌, ap, ◌∙◌}
 use mathlib.Core.Bool.{true, false}
-use mathlib.Core.List.{List}
-use Prim.Native.Nat.{ℕ, ◌+◌, ◌-◌, ◌*◌, ◌≤◌, ◌<◌}
+use Prim.Native.Nat.{ℕ, ◌+◌, ◌*◌, ◌≤◌, ◌<◌}
 use native.Mathlib.Omega.{arith}
 use lib.Dec.{eqb}
 use Rattle.recorder.specs.Flag.{live_flag}
@@ -17,7 +16,7 @@ use Rattle.translation.specs.File.{along_of}
 use Rattle.translation.specs.Asks.{Asks, RecordAt}
 use Rattle.translation.proofs.Asks.{slot_in, state_below, unsaved_is, from_is, to_is, row_in}
 use Rattle.translation.proofs.Along.{zero_is, zero_range, along_slot}
-use Rattle.translation.proofs.Writing.{Rowing, one_or_both, rowing_begins, along_is, rowing_room, rowing_on, rowing_ends}
+use Rattle.translation.proofs.Writing.{one_or_both, rowing_begins, along_is, rowing_room, rowing_on, rowing_ends}
 use Rattle.translation.proofs.targets.write_row.Goals as goal
 
 pub has_goal-goal-requires : goal.has_goal-goal-requires
@@ -305,4 +304,3 @@ returns c =
       value = both.0;
       part_after = both.1;
     }
-

@@ -1,10 +1,9 @@
 -- when slot p comes, its record is there and the rows of the slots below it
 -- are written (`Targeting`).
-use Prim.Native.Nat.{◌-◌}
 use native.Mathlib.Omega.{arith}
 use Rattle.recorder.specs.Flag.{live_flag}
-use Rattle.translation.proofs.Asks.{Carries, record_range, next_is}
-use Rattle.translation.proofs.Writing.{Targeting, targeting_begins, targeting_room, targeting_on, targeting_ends}
+use Rattle.translation.proofs.Asks.{record_range, next_is}
+use Rattle.translation.proofs.Writing.{targeting_begins, targeting_room, targeting_on, targeting_ends}
 use Rattle.translation.proofs.targets.write_targets.Goals as goal
 
 pub of_slot-r-requires : goal.of_slot-r-requires
@@ -39,4 +38,3 @@ loop-p-preserved c =
 
 pub returns : goal.returns
 returns c = targeting_ends c.loop-p.invariant.written c.loop-p-test.false
-

@@ -1,9 +1,8 @@
 -- What the loop keeps.
 use Prim.Native.Nat.{◌-◌}
-use native.Mathlib.Omega.{arith}
 use Rattle.recorder.specs.Flag.{live_flag}
-use Rattle.translation.proofs.Asks.{Carries, record_range, next_is}
-use Rattle.translation.proofs.Writing.{Targeting, targeting_begins, targeting_room, targeting_on, targeting_ends}
+use Rattle.translation.proofs.Asks.{Carries}
+use Rattle.translation.proofs.Writing.{Targeting}
 use Rattle.translation.proofs.targets.write_targets.Given as goal
 
 abbrev pub invariant-loop-p : goal.invariant-loop-p
@@ -11,4 +10,3 @@ invariant-loop-p l = Carries l.t l.p l.r (Targeting live_flag l.bytes l.initial.
 
 abbrev pub decreases-loop-p : goal.decreases-loop-p
 decreases-loop-p l = l.slots - l.p
-
