@@ -1,4 +1,4 @@
--- number and words are those of opening's answer, refused or accepted.
+-- Number and words are those of opening's answer, refused or accepted.
 use mathlib.Core.Path.{sym, ◌∙◌}
 use Rattle.table.proofs.WellFormed.{why_is}
 use Rattle.lasso.proofs.Laws.{open_accepted, open_refused}

@@ -1,4 +1,4 @@
--- number and place are those of opening's answer, and the sheet has four numbers of members.
+-- Number and place are those of opening's answer, and the sheet has four numbers of members.
 use Rattle.lasso.proofs.Laws.{quote_told}
 use Rattle.lasso.proofs.lasso_quote.Goals as goal
 

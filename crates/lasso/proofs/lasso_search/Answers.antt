@@ -1,4 +1,4 @@
--- the search's answer is told case by case.
+-- The search's answer is told case by case.
 use Rattle.lasso.proofs.Laws.{search_lasso, search_holds, search_refused}
 use Rattle.lasso.proofs.lasso_search.Goals as goal
 

@@ -1,4 +1,4 @@
--- the step's answer is told case by case.
+-- The step's answer is told case by case.
 use mathlib.Core.Path.{sym, ◌∙◌}
 use Rattle.lasso.proofs.Laws.{step_moved, step_refused}
 use Rattle.lasso.proofs.lasso_step.Goals as goal

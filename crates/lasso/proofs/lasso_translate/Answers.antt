@@ -1,4 +1,4 @@
--- the translation's answer is told case by case.
+-- The translation's answer is told case by case.
 use Rattle.lasso.proofs.Laws.{translate_written, translate_refused}
 use Rattle.lasso.proofs.lasso_translate.Goals as goal
 

@@ -1,4 +1,4 @@
--- what was written is the translated table; a refusal left the output as it was, and its line stands in it.
+-- What was written is the translated table; a refusal left the output as it was, and its line stands in it.
 use Rattle.lines.proofs.Laws.{puts_written, puts_not_written}
 use Rattle.lines.proofs.translate.Goals as goal
 

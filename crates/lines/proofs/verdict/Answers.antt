@@ -1,4 +1,4 @@
--- the table is searched and quoted, and the lines are those of both answers.
+-- The table is searched and quoted, and the lines are those of both answers.
 use native.Mathlib.Omega.{arith}
 use Rattle.table.proofs.WellFormed.{why_is}
 use Rattle.lines.proofs.Puts.{puts_on, puts_length}

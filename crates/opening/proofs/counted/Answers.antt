@@ -1,4 +1,4 @@
--- the code goes down lines 1, 2, 3, 14 and 15, and the counts that it read are the header's.
+-- The code goes down lines 1, 2, 3, 14 and 15, and the counts that it read are the header's.
 use mathlib.Core.Path.{◌≡◌, sym, ◌∙◌}
 use mathlib.Core.Bool.{true, false}
 use lib.Dec.{eqb, ltb}

@@ -1,4 +1,4 @@
--- what the lines of the counts refuse stays refused, and after them the code goes down lines 4 and 5.
+-- What the lines of the counts refuse stays refused, and after them the code goes down lines 4 and 5.
 use mathlib.Core.Path.{◌≡◌, sym, ap, ◌∙◌}
 use mathlib.Core.Bool.{true}
 use mathlib.Core.Option.{none}

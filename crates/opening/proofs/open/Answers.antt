@@ -1,4 +1,4 @@
--- what the lines before refuse stays refused, and after them the code goes down lines 6 to 8.
+-- What the lines before refuse stays refused, and after them the code goes down lines 6 to 8.
 use mathlib.Core.Path.{◌≡◌, sym, ◌∙◌}
 use mathlib.Core.List.{◌++◌}
 use mathlib.Core.Option.{none}

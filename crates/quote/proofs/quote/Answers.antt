@@ -1,4 +1,4 @@
--- the sheet is that of opening's answer.
+-- The sheet is that of opening's answer.
 use mathlib.Core.Path.{sym, ap, ◌∙◌}
 use Rattle.table.proofs.WellFormed.{laid}
 use Rattle.quote.specs.Quote.{sheet_for}

@@ -1,4 +1,4 @@
--- each field is what the called function gives, and the sizes are small.
+-- Each field is what the called function gives, and the sizes are small.
 use Prim.Native.Nat.{◌*◌, ◌^◌, ◌≤◌}
 use native.Mathlib.Omega.{arith}
 use Rattle.recorder.proofs.Fits.{count_small}

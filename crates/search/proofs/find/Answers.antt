@@ -1,4 +1,4 @@
--- the workspace is cleared, the starts are queued and scanned, and what the scan saw is the answer. The laws are
+-- The workspace is cleared, the starts are queued and scanned, and what the scan saw is the answer. The laws are
 -- those of specs/Find.antt.
 use mathlib.Core.Path.{◌≡◌, sym, ap₂, ◌∙◌}
 use Prim.Native.Nat.{ℕ, ◌*◌, ◌≤◌}

@@ -1,4 +1,4 @@
--- the table is opened and taken, the code goes down lines 9 and 10, and then it finds.
+-- The table is opened and taken, the code goes down lines 9 and 10, and then it finds.
 use mathlib.Core.Path.{◌≡◌, sym, ap₂, ◌∙◌}
 use native.Mathlib.Omega.{arith}
 use Rattle.recorder.specs.Slots.{slot_count}

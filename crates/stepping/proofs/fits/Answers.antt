@@ -1,4 +1,4 @@
--- the code is `record_fits`, since 1 shifted by m is 2^m.
+-- The code is `record_fits`, since 1 shifted by m is 2^m.
 use native.Mathlib.Omega.{arith}
 use Rattle.recorder.proofs.Fits.{one_shl}
 use Rattle.stepping.specs.Step.{record_fits}

@@ -1,4 +1,4 @@
--- the table is opened and taken, the code goes down lines 12 and 13, and the rules' step reads of the
+-- The table is opened and taken, the code goes down lines 12 and 13, and the rules' step reads of the
 -- block what the code read of the bytes.
 use mathlib.Core.Path.{◌≡◌, sym, ap, ◌∙◌}
 use mathlib.Core.Bool.{true}

@@ -1,4 +1,4 @@
--- the table is opened and taken, the code goes down line 11, and then it lends each part of the output to
+-- The table is opened and taken, the code goes down line 11, and then it lends each part of the output to
 -- its writer.
 use mathlib.Core.Path.{◌≡◌, sym, ap₂, ◌∙◌}
 use mathlib.Core.List.{◌++◌}

@@ -1,4 +1,4 @@
--- the lines of the answer, case by case.
+-- The lines of the answer, case by case.
 use mathlib.Core.Path.{◌≡◌}
 use Prim.Native.Nat.{◌+◌, ◌<◌}
 use native.Mathlib.Omega.{arith}

@@ -1,4 +1,4 @@
--- a letter below 8, or `none`.
+-- A letter below 8, or `none`.
 use native.Mathlib.Omega.{arith}
 use Rattle.lines.proofs.Puts.{puts_on}
 use Rattle.lines.proofs.Laws.{puts_letter, puts_no_board}

@@ -1,4 +1,4 @@
--- number and place are those of the list.
+-- Number and place are those of the list.
 use Rattle.lines.proofs.Laws.{puts_refused}
 use Rattle.lines.proofs.lines.refused_line.Goals as goal
 

@@ -1,4 +1,4 @@
--- three lines one after the other.
+-- Three lines one after the other.
 use mathlib.Core.Path.{ap}
 use mathlib.Core.List.{append-nil}
 use native.Mathlib.Omega.{arith}

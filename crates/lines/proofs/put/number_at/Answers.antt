@@ -1,4 +1,4 @@
--- an index below the few is theirs, and one past them is a state's.
+-- An index below the few is theirs, and one past them is a state's.
 use mathlib.Core.Path.{◌≡◌, ap, sym, ◌∙◌}
 use mathlib.Core.List.{List, ◌++◌}
 use Prim.Native.Nat.{ℕ, ◌+◌, ◌-◌, ◌≤◌}
@@ -6,9 +6,6 @@ use native.Mathlib.Omega.{arith}
 use lib.ListN.{length, get_or, get_or-append}
 use lib.Seq.{get_or-append-add}
 use Rattle.lines.proofs.put.number_at.Goals as goal
-
--- NO NEED overflow-cast-result
--- let a = c.before.before.args in omega (arith, c.shared-slice-known2.given (a.i - length a.few.now))
 
 pub returns-then-i-few : goal.returns-then-i-few
 returns-then-i-few c = let a = c.args in sym (get_or-append a.few.now a.states.now 0 a.i (omega arith))

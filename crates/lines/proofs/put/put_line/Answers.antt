@@ -1,4 +1,4 @@
--- the word, number after number, and the end of the line.
+-- The word, number after number, and the end of the line.
 use mathlib.Core.Path.{◌≡◌}
 use mathlib.Core.List.{◌++◌}
 use Prim.Native.Nat.{◌+◌, ◌*◌, ◌≤◌}

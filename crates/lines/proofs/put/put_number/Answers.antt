@@ -1,4 +1,4 @@
--- a space, and then the digits that the kit gives, which are the number in decimal.
+-- A space, and then the digits that the kit gives, which are the number in decimal.
 use mathlib.Core.List.{◌∷◌}
 use Prim.Native.Nat.{◌+◌, ◌≤◌}
 use Rattle.lines.specs.Text.{decimal_of}

@@ -1,4 +1,4 @@
--- byte after byte, each after the ones before.
+-- Byte after byte, each after the ones before.
 use native.Mathlib.Omega.{arith}
 use Rattle.lines.proofs.Puts.{puts_none, puts_byte, puts_all, puts_length}
 use Rattle.lines.proofs.put.put_text.Goals as goal

@@ -1,4 +1,4 @@
--- it scans the states for an empty row, and carries the row start of the state it is at.
+-- It scans the states for an empty row, and carries the row start of the state it is at.
 use mathlib.Core.Path.{ap}
 use Prim.Native.Nat.{suc}
 use native.Mathlib.Numerals.{add-one}

@@ -1,4 +1,4 @@
--- the code is `layout_fits`, at the words that were read and the counts of the header.
+-- The code is `layout_fits`, at the words that were read and the counts of the header.
 use Rattle.table.specs.Open.{layout_fits}
 use Rattle.opening.proofs.faults.layout_fits.Goals as goal
 

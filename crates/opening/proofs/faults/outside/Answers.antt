@@ -1,4 +1,4 @@
--- the code is `outside`.
+-- The code is `outside`.
 use mathlib.Core.Path.{refl}
 use Rattle.table.specs.Open.{outside}
 use Rattle.opening.proofs.faults.outside.Goals as goal

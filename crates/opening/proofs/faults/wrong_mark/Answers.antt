@@ -1,4 +1,4 @@
--- it scans the states for a mark of 2^(2+m) or more.
+-- It scans the states for a mark of 2^(2+m) or more.
 use mathlib.Core.Path.{◌≡◌, sym, ap, ◌∙◌}
 use Prim.Native.Nat.{ℕ, ◌+◌, ◌*◌, ◌%◌, ◌^◌, ◌≤◌}
 use native.Mathlib.Omega.{arith}

@@ -1,4 +1,4 @@
--- at index i the row starts before it are right but for "the last is e", which is tested
+-- At index i the row starts before it are right but for "the last is e", which is tested
 -- after the loop.
 use mathlib.Core.Path.{◌≡◌, refl, ap, ◌∙◌}
 use mathlib.Core.Bool.{false}

@@ -1,4 +1,4 @@
--- it scans the targets row by row, and carries where the row of s starts.
+-- It scans the targets row by row, and carries where the row of s starts.
 use mathlib.Core.Path.{◌≡◌, sym, ap, ◌∙◌}
 use Prim.Native.Nat.{suc}
 use native.Mathlib.Numerals.{add-one}

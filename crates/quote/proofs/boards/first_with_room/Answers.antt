@@ -1,4 +1,4 @@
--- it scans the rows of the board table for one with room for both.
+-- It scans the rows of the board table for one with room for both.
 use mathlib.Core.Path.{sym, ap}
 use mathlib.Core.Option.{Option, get_or}
 use Prim.Native.Nat.{ℕ}

@@ -1,4 +1,4 @@
--- after s states it has counted those of the first s that set i holds.
+-- After s states it has counted those of the first s that set i holds.
 use mathlib.Core.Path.{◌≡◌, refl, sym, ap, ap₂, ◌∙◌}
 use mathlib.Core.Bool.{cond}
 use mathlib.Core.List.{List}

@@ -1,4 +1,4 @@
--- it counts the letters that the climb passes.
+-- It counts the letters that the climb passes.
 use mathlib.Core.Path.{refl, ap}
 use mathlib.Core.List.{[]}
 use native.Mathlib.Omega.{arith}

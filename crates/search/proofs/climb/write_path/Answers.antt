@@ -1,4 +1,4 @@
--- each letter that the climb passes is written before the letters passed so far, and at a start
+-- Each letter that the climb passes is written before the letters passed so far, and at a start
 -- these are the path.
 use mathlib.Core.Path.{◌≡◌, refl, sym, ap, ◌∙◌}
 use mathlib.Core.Bool.{Bool, true, false, cond}

@@ -1,4 +1,4 @@
--- a slot that was not met leaves room in the queue, so both stores stand in the workspace.
+-- A slot that was not met leaves room in the queue, so both stores stand in the workspace.
 use mathlib.Core.Path.{refl}
 use Prim.Native.Nat.{◌<◌}
 use native.Mathlib.Omega.{arith}

@@ -1,4 +1,4 @@
--- by the test, it is `meet` or nothing.
+-- By the test, it is `meet` or nothing.
 use mathlib.Core.Path.{refl, sym, ◌∙◌}
 use mathlib.Core.Bool.{true≢false}
 use Rattle.search.proofs.meet.meet_if.Goals as goal

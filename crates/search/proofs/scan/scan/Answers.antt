@@ -1,4 +1,4 @@
--- each fact that the walk of its code leaves is answered by what is known at its place and the laws of specs/Follow.antt.
+-- Each fact that the walk of its code leaves is answered by what is known at its place and the laws of specs/Follow.antt.
 use mathlib.Core.Path.{◌≡◌, sym, ap, ap₂, ◌∙◌}
 use mathlib.Core.Bool.{Bool, true, false, true≢false}
 use Prim.Native.Nat.{ℕ, suc, ◌+◌, ◌<◌}
@@ -64,9 +64,6 @@ bounds-work-slots c =
     let asks : ScanAsks live_flag bytes-at table_at c.args.slots c.args.work.now c.args.queued = c.requires in
     let head_in : c.queue.head < c.args.slots = omega (arith, c.queue-test.true, kept_le _ _ _ c.queue.invariant.kept, asks.slots_are) in
     omega (arith, head_in, c.queue.invariant.kept.room, asks.slots_are)
-
--- NO NEED overflow-cast-x
--- omega (arith, c.slice-known2.given (c.before.before.before.before.before.args.slots + c.before.before.queue.head))
 
 pub of_slot-r-requires : goal.of_slot-r-requires
 of_slot-r-requires c =

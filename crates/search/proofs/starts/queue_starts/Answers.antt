@@ -1,4 +1,4 @@
--- at state s the starts below s are queued (`Starting`), and the laws of specs/Starts.antt say what
+-- At state s the starts below s are queued (`Starting`), and the laws of specs/Starts.antt say what
 -- meeting the slot of state s asks and gives.
 use mathlib.Core.Path.{◌≡◌, sym, ◌∙◌}
 use Prim.Native.Nat.{◌<◌, zero-le}

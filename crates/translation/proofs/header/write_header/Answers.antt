@@ -1,4 +1,4 @@
--- the seven numbers stand one after the other.
+-- The seven numbers stand one after the other.
 use Rattle.writing.specs.Header.{header_written}
 use Rattle.translation.proofs.header.write_header.Goals as goal
 

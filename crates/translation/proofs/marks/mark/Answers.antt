@@ -1,4 +1,4 @@
--- the three bits of the slot's record are those of the rules.
+-- The three bits of the slot's record are those of the rules.
 use mathlib.Core.Bool.{Bool, ◌&&◌}
 use Prim.Native.Nat.{◌≤◌}
 use native.Mathlib.Omega.{arith}

@@ -1,4 +1,4 @@
--- when slot p comes, its record is there and the marks of the slots below it
+-- When slot p comes, its record is there and the marks of the slots below it
 -- are written (`Marking`).
 use native.Mathlib.Omega.{arith}
 use Rattle.recorder.specs.Flag.{live_flag}

@@ -1,4 +1,4 @@
--- the row of the slot's state, counted once or twice.
+-- The row of the slot's state, counted once or twice.
 use mathlib.Core.Path.{◌≡◌}
 use mathlib.Core.Bool.{Bool}
 use Prim.Native.Nat.{◌+◌, ◌-◌, ◌*◌, ◌≤◌}

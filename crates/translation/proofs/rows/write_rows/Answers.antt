@@ -1,4 +1,4 @@
--- when slot p comes, its record is there, the row starts below it are written, and
+-- When slot p comes, its record is there, the row starts below it are written, and
 -- sum is where its own row starts (`Starting`).
 use native.Mathlib.Omega.{arith}
 use Rattle.recorder.specs.Flag.{live_flag}

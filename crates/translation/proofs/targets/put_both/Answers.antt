@@ -1,4 +1,4 @@
--- one number, or one after the other.
+-- One number, or one after the other.
 use native.Mathlib.Omega.{arith}
 use Rattle.translation.proofs.Writing.{one_put, both_room, both_put}
 use Rattle.translation.proofs.targets.put_both.Goals as goal

@@ -1,4 +1,4 @@
--- when target i comes, what the slot leads to along the targets before it is written (`Rowing`).
+-- When target i comes, what the slot leads to along the targets before it is written (`Rowing`).
 use mathlib.Core.Path.{◌≡◌, ap, ◌∙◌}
 use mathlib.Core.Bool.{true, false}
 use Prim.Native.Nat.{ℕ, ◌+◌, ◌*◌, ◌≤◌, ◌<◌}

@@ -1,4 +1,4 @@
--- when slot p comes, its record is there and the rows of the slots below it
+-- When slot p comes, its record is there and the rows of the slots below it
 -- are written (`Targeting`).
 use native.Mathlib.Omega.{arith}
 use Rattle.recorder.specs.Flag.{live_flag}
