@@ -3,6 +3,4 @@ use Rattle.lasso.proofs.Laws.{quote_told}
 use Rattle.lasso.proofs.lasso_quote.Goals as goal
 
 pub returns : goal.returns
-returns c =
-    let q = c.quote-quoted in
-    quote_told _ _ _ _ q.ensures c.number_of.ensures c.place_of.ensures
+returns c = quote_told _ _ _ _ c.quote-quoted.ensures c.number_of.ensures c.place_of.ensures

@@ -10,11 +10,9 @@ returns-in_default c = (_, c.search-answer.ensures, puts_table_refused _ _ _ _ c
 
 pub answer_lines-requires : goal.answer_lines-requires
 answer_lines-requires c =
-    let first = c.sheet_lines-end.ensures in
-    let room = c.sheet_lines-arg-1.given in
     record {
       run_fits = run_fits _ _ _ _ _ _ c.search-answer.ensures;
-      at_in_bounds = omega (arith, first.upper_bound, puts_length first.puts, room);
+      at_in_bounds = omega (arith, c.sheet_lines-end.ensures.upper_bound, puts_length c.sheet_lines-end.ensures.puts, c.sheet_lines-arg-1.given);
     }
 
 pub returns : goal.returns

@@ -18,9 +18,8 @@ returns-in_default c = stays_refused _ _ _ _ _ c.counted-answer.ensures c.in_def
 pub layout_fits-requires : goal.layout_fits-requires
 layout_fits-requires c =
     let t : Table = c.in-Accepted.t in
-    let b = c.args.bytes.now in
-    let taken : (first_given (count_lines b) ≡ none) × (t ≡ table_of b) = accepts_says b _ t (sym c.counted-answer.ensures ∙ c.in-Accepted.is) in
-    let counts : Counted b = counted b taken.0 in
+    let taken : (first_given (count_lines c.args.bytes.now) ≡ none) × (t ≡ table_of c.args.bytes.now) = accepts_says c.args.bytes.now _ t (sym c.counted-answer.ensures ∙ c.in-Accepted.is) in
+    let counts : Counted c.args.bytes.now = counted c.args.bytes.now taken.0 in
     let d = counts in
     let e = taken.1 in
     let s = ap (λ (t : Table). t.states) e in
@@ -33,33 +32,25 @@ layout_fits-requires c =
 
 pub returns-then-not-layout_fits : goal.returns-then-not-layout_fits
 returns-then-not-layout_fits c =
-    let b = c.args.bytes.now in
-    let t : Table = c.in-Accepted.t in
-    let taken : (first_given (count_lines b) ≡ none) × (t ≡ table_of b) = accepts_says b _ t (sym c.counted-answer.ensures ∙ c.in-Accepted.is) in
-    next_refuses b (count_lines b) (row_lines b) _ taken.0 (wrong_layout _ (sym c.layout_fits.ensures ∙ c.if-not-layout_fits.true))
+    let taken : (first_given (count_lines c.args.bytes.now) ≡ none) × (c.in-Accepted.t ≡ table_of c.args.bytes.now) = accepts_says c.args.bytes.now _ c.in-Accepted.t (sym c.counted-answer.ensures ∙ c.in-Accepted.is) in
+    next_refuses c.args.bytes.now (count_lines c.args.bytes.now) (row_lines c.args.bytes.now) _ taken.0 (wrong_layout _ (sym c.layout_fits.ensures ∙ c.if-not-layout_fits.true))
 
 pub wrong_row_start-requires : goal.wrong_row_start-requires
 wrong_row_start-requires c =
-    let b = c.args.bytes.now in
-    let t : Table = c.in-Accepted.t in
-    let taken : (first_given (count_lines b) ≡ none) × (t ≡ table_of b) = accepts_says b _ t (sym c.counted-answer.ensures ∙ c.in-Accepted.is) in
-    let counts : Counted b = counted b taken.0 in
-    let layout : layout_fits b ≡ true = sym c.layout_fits.ensures ∙ c.if-not-layout_fits.false in
-    let laid : LaidOut b t = laid_out b counts layout t taken.1 in
+    let taken : (first_given (count_lines c.args.bytes.now) ≡ none) × (c.in-Accepted.t ≡ table_of c.args.bytes.now) = accepts_says c.args.bytes.now _ c.in-Accepted.t (sym c.counted-answer.ensures ∙ c.in-Accepted.is) in
+    let counts : Counted c.args.bytes.now = counted c.args.bytes.now taken.0 in
+    let layout : layout_fits c.args.bytes.now ≡ true = sym c.layout_fits.ensures ∙ c.if-not-layout_fits.false in
+    let laid : LaidOut c.args.bytes.now c.in-Accepted.t = laid_out c.args.bytes.now counts layout c.in-Accepted.t taken.1 in
     laid
 
 pub returns-in-At : goal.returns-in-At
 returns-in-At c =
-    let b = c.args.bytes.now in
-    let t : Table = c.in-Accepted.t in
-    let taken : (first_given (count_lines b) ≡ none) × (t ≡ table_of b) = accepts_says b _ t (sym c.counted-answer.ensures ∙ c.in-Accepted.is) in
-    let layout : layout_fits b ≡ true = sym c.layout_fits.ensures ∙ c.if-not-layout_fits.false in
-    next_refuses b (count_lines b) (row_lines b) _ taken.0 (wrong_row_start _ layout _ (found_at _ _ (sym c.in-At.is ∙ c.wrong_row_start.ensures)))
+    let taken : (first_given (count_lines c.args.bytes.now) ≡ none) × (c.in-Accepted.t ≡ table_of c.args.bytes.now) = accepts_says c.args.bytes.now _ c.in-Accepted.t (sym c.counted-answer.ensures ∙ c.in-Accepted.is) in
+    let layout : layout_fits c.args.bytes.now ≡ true = sym c.layout_fits.ensures ∙ c.if-not-layout_fits.false in
+    next_refuses c.args.bytes.now (count_lines c.args.bytes.now) (row_lines c.args.bytes.now) _ taken.0 (wrong_row_start _ layout _ (found_at _ _ (sym c.in-At.is ∙ c.wrong_row_start.ensures)))
 
 pub returns : goal.returns
 returns c =
-    let b = c.args.bytes.now in
-    let t : Table = c.in-Accepted.t in
-    let taken : (first_given (count_lines b) ≡ none) × (t ≡ table_of b) = accepts_says b _ t (sym c.counted-answer.ensures ∙ c.in-Accepted.is) in
-    let layout : layout_fits b ≡ true = sym c.layout_fits.ensures ∙ c.if-not-layout_fits.false in
-    next_accepts b (count_lines b) (row_lines b) _ taken.0 (rows_off _ layout (found_none _ (sym c.in_default-wrong_row_start.is ∙ c.wrong_row_start.ensures))) taken.1
+    let taken : (first_given (count_lines c.args.bytes.now) ≡ none) × (c.in-Accepted.t ≡ table_of c.args.bytes.now) = accepts_says c.args.bytes.now _ c.in-Accepted.t (sym c.counted-answer.ensures ∙ c.in-Accepted.is) in
+    let layout : layout_fits c.args.bytes.now ≡ true = sym c.layout_fits.ensures ∙ c.if-not-layout_fits.false in
+    next_accepts c.args.bytes.now (count_lines c.args.bytes.now) (row_lines c.args.bytes.now) _ taken.0 (rows_off _ layout (found_none _ (sym c.in_default-wrong_row_start.is ∙ c.wrong_row_start.ensures))) taken.1

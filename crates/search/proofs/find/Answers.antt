@@ -20,22 +20,19 @@ pub queue_starts-queued-requires : goal.queue_starts-queued-requires
 queue_starts-queued-requires c =
     let asks : FindAsks c.args.bytes.now c.args.t
     c.args.slots c.args.work.now c.args.report.now = c.requires in
-    let origins : c.clear.new.words ≡ cleared c.args.slots c.args.work.now = c.clear.ensures in
-    starts_asked _ asks origins
+    starts_asked _ asks c.clear.ensures
 
 pub scan-seen-requires : goal.scan-seen-requires
 scan-seen-requires c =
     let asks : FindAsks c.args.bytes.now c.args.t
     c.args.slots c.args.work.now c.args.report.now = c.requires in
-    let origins : c.clear.new.words ≡ cleared c.args.slots c.args.work.now = c.clear.ensures in
-    scan_asked (starts_asked _ asks origins) c.queue_starts-queued.ensures
+    scan_asked (starts_asked _ asks c.clear.ensures) c.queue_starts-queued.ensures
 
 pub returns-in_default : goal.returns-in_default
 returns-in_default c =
     let asks : FindAsks c.args.bytes.now c.args.t
     c.args.slots c.args.work.now c.args.report.now = c.requires in
-    let origins : c.clear.new.words ≡ cleared c.args.slots c.args.work.now = c.clear.ensures in
-    let rest : drop (2 * c.args.slots) c.scan-seen.new.work ≡ drop (2 * c.args.slots) c.args.work.now = rest_stays _ _ _ _ origins c.queue_starts-queued.ensures c.scan-seen.ensures in
+    let rest : drop (2 * c.args.slots) c.scan-seen.new.work ≡ drop (2 * c.args.slots) c.args.work.now = rest_stays _ _ _ _ c.clear.ensures c.queue_starts-queued.ensures c.scan-seen.ensures in
     let a = asks in (
       says_holds _ a.formed (seen_as c.in_default.is c.scan-seen.ensures).seen,
       clears _ _ a.slots_are rest c.clear-in_default.ensures,
@@ -94,8 +91,7 @@ pub returns : goal.returns
 returns c =
     let asks : FindAsks c.args.bytes.now c.args.t
     c.args.slots c.args.work.now c.args.report.now = c.requires in
-    let origins : c.clear.new.words ≡ cleared c.args.slots c.args.work.now = c.clear.ensures in
-    let rest : drop (2 * c.args.slots) c.scan-seen.new.work ≡ drop (2 * c.args.slots) c.args.work.now = rest_stays _ _ _ _ origins c.queue_starts-queued.ensures c.scan-seen.ensures in
+    let rest : drop (2 * c.args.slots) c.scan-seen.new.work ≡ drop (2 * c.args.slots) c.args.work.now = rest_stays _ _ _ _ c.clear.ensures c.queue_starts-queued.ensures c.scan-seen.ensures in
     let stopped : Stopped live_flag c.args.bytes.now c.args.slots
     c.scan-seen.new.work c.in-Bad.head c.in-Bad.slot = (seen_as c.in-Bad.is c.scan-seen.ensures).seen in
     let told : Told live_flag c.args.bytes.now

@@ -16,41 +16,31 @@ returns-in_default c = table_refused _ _ _ _ (sym c.open-answer.ensures ∙ why_
 
 pub slot_count-slots-requires : goal.slot_count-slots-requires
 slot_count-slots-requires c =
-    let b = c.args.bytes.now in
-    let t : Table = c.in-Accepted.t in
-    let opened : open_of b ≡ Accepted t = sym c.open-answer.ensures ∙ c.in-Accepted.is in
+    let opened : open_of c.args.bytes.now ≡ Accepted c.in-Accepted.t = sym c.open-answer.ensures ∙ c.in-Accepted.is in
     let l = laid _ _ opened in (l.states_to, omega (arith, l.sets_to))
 
 pub overflow_mul-slots : goal.overflow_mul-slots
 overflow_mul-slots c =
-    let b = c.args.bytes.now in
-    let t : Table = c.in-Accepted.t in
-    let opened : open_of b ≡ Accepted t = sym c.open-answer.ensures ∙ c.in-Accepted.is in
-    let slots_are : c.slot_count-slots.result ≡ slots_of b = let l = laid _ _ opened in c.slot_count-slots.ensures ∙ ap₂ slot_count l.states_are l.sets_are in
+    let opened : open_of c.args.bytes.now ≡ Accepted c.in-Accepted.t = sym c.open-answer.ensures ∙ c.in-Accepted.is in
+    let slots_are : c.slot_count-slots.result ≡ slots_of c.args.bytes.now = let l = laid _ _ opened in c.slot_count-slots.ensures ∙ ap₂ slot_count l.states_are l.sets_are in
     omega (arith, slots_are, slots_few _ (well_formed _ _ opened))
 
 pub returns-then-work-slots : goal.returns-then-work-slots
 returns-then-work-slots c =
-    let b = c.args.bytes.now in
-    let t : Table = c.in-Accepted.t in
-    let opened : open_of b ≡ Accepted t = sym c.open-answer.ensures ∙ c.in-Accepted.is in
-    let slots_are : c.slot_count-slots.result ≡ slots_of b = let l = laid _ _ opened in c.slot_count-slots.ensures ∙ ap₂ slot_count l.states_are l.sets_are in
+    let opened : open_of c.args.bytes.now ≡ Accepted c.in-Accepted.t = sym c.open-answer.ensures ∙ c.in-Accepted.is in
+    let slots_are : c.slot_count-slots.result ≡ slots_of c.args.bytes.now = let l = laid _ _ opened in c.slot_count-slots.ensures ∙ ap₂ slot_count l.states_are l.sets_are in
     short_workspace _ _ _ _ opened (omega (arith, c.if-work-slots.true, slots_are))
 
 pub returns-then-report-slots : goal.returns-then-report-slots
 returns-then-report-slots c =
-    let b = c.args.bytes.now in
-    let t : Table = c.in-Accepted.t in
-    let opened : open_of b ≡ Accepted t = sym c.open-answer.ensures ∙ c.in-Accepted.is in
-    let slots_are : c.slot_count-slots.result ≡ slots_of b = let l = laid _ _ opened in c.slot_count-slots.ensures ∙ ap₂ slot_count l.states_are l.sets_are in
+    let opened : open_of c.args.bytes.now ≡ Accepted c.in-Accepted.t = sym c.open-answer.ensures ∙ c.in-Accepted.is in
+    let slots_are : c.slot_count-slots.result ≡ slots_of c.args.bytes.now = let l = laid _ _ opened in c.slot_count-slots.ensures ∙ ap₂ slot_count l.states_are l.sets_are in
     short_report _ _ _ _ opened (omega (arith, c.if-work-slots.false, slots_are)) (omega (arith, c.if-report-slots.true, slots_are))
 
 pub find-requires : goal.find-requires
 find-requires c =
-    let b = c.args.bytes.now in
-    let t : Table = c.in-Accepted.t in
-    let opened : open_of b ≡ Accepted t = sym c.open-answer.ensures ∙ c.in-Accepted.is in
-    let slots_are : c.slot_count-slots.result ≡ slots_of b = let l = laid _ _ opened in c.slot_count-slots.ensures ∙ ap₂ slot_count l.states_are l.sets_are in
+    let opened : open_of c.args.bytes.now ≡ Accepted c.in-Accepted.t = sym c.open-answer.ensures ∙ c.in-Accepted.is in
+    let slots_are : c.slot_count-slots.result ≡ slots_of c.args.bytes.now = let l = laid _ _ opened in c.slot_count-slots.ensures ∙ ap₂ slot_count l.states_are l.sets_are in
     record {
       formed = well_formed _ _ opened;
       laid = laid _ _ opened;
@@ -61,8 +51,6 @@ find-requires c =
 
 pub returns : goal.returns
 returns c =
-    let b = c.args.bytes.now in
-    let t : Table = c.in-Accepted.t in
-    let opened : open_of b ≡ Accepted t = sym c.open-answer.ensures ∙ c.in-Accepted.is in
-    let slots_are : c.slot_count-slots.result ≡ slots_of b = let l = laid _ _ opened in c.slot_count-slots.ensures ∙ ap₂ slot_count l.states_are l.sets_are in
+    let opened : open_of c.args.bytes.now ≡ Accepted c.in-Accepted.t = sym c.open-answer.ensures ∙ c.in-Accepted.is in
+    let slots_are : c.slot_count-slots.result ≡ slots_of c.args.bytes.now = let l = laid _ _ opened in c.slot_count-slots.ensures ∙ ap₂ slot_count l.states_are l.sets_are in
     finds _ _ _ _ opened (omega (arith, c.if-work-slots.false, slots_are)) (omega (arith, c.if-report-slots.false, slots_are)) _ _ _ c.find.ensures

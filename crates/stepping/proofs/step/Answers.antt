@@ -22,81 +22,53 @@ returns-in_default c = table_refused _ _ _ _ _ (sym c.open-answer.ensures ∙ wh
 
 pub fits-requires : goal.fits-requires
 fits-requires c =
-    let b = c.args.bytes.now in
-    let t : Table = c.in-Accepted.t in
-    let opened : open_of b ≡ Accepted t = sym c.open-answer.ensures ∙ c.in-Accepted.is in
-    (laid b t opened).sets_to
+    let opened : open_of c.args.bytes.now ≡ Accepted c.in-Accepted.t = sym c.open-answer.ensures ∙ c.in-Accepted.is in
+    (laid c.args.bytes.now c.in-Accepted.t opened).sets_to
 
 pub returns-then-not-fits : goal.returns-then-not-fits
 returns-then-not-fits c =
-    let b = c.args.bytes.now in
-    let r : Record = c.args.r in
-    let next = c.args.next in
-    let t : Table = c.in-Accepted.t in
-    let opened : open_of b ≡ Accepted t = sym c.open-answer.ensures ∙ c.in-Accepted.is in
-    record_refused b r next _ t opened (sym c.fits.ensures ∙ c.if-not-fits.true)
+    let opened : open_of c.args.bytes.now ≡ Accepted c.in-Accepted.t = sym c.open-answer.ensures ∙ c.in-Accepted.is in
+    record_refused c.args.bytes.now c.args.r c.args.next _ c.in-Accepted.t opened (sym c.fits.ensures ∙ c.if-not-fits.true)
 
 pub has_edge-requires : goal.has_edge-requires
 has_edge-requires c =
-    let b = c.args.bytes.now in
-    let t : Table = c.in-Accepted.t in
-    let opened : open_of b ≡ Accepted t = sym c.open-answer.ensures ∙ c.in-Accepted.is in
-    let r : Record = c.args.r in
-    let next = c.args.next in
-    let fits : record_fits t.states t.sets r next ≡ true = sym c.fits.ensures ∙ c.if-not-fits.false in
-    let states-in : (r.s < t.states) × (next < t.states) = ((fits_says _ _ r next).0 fits).0.0 in
+    let opened : open_of c.args.bytes.now ≡ Accepted c.in-Accepted.t = sym c.open-answer.ensures ∙ c.in-Accepted.is in
+    let fits : record_fits c.in-Accepted.t.states c.in-Accepted.t.sets c.args.r c.args.next ≡ true = sym c.fits.ensures ∙ c.if-not-fits.false in
+    let states-in : (c.args.r.s < c.in-Accepted.t.states) × (c.args.next < c.in-Accepted.t.states) = ((fits_says _ _ c.args.r c.args.next).0 fits).0.0 in
     record {
-      well_formed = well_formed b t opened;
-      states_value = ((laid b t opened).states_are, omega (arith, states-in));
+      well_formed = well_formed c.args.bytes.now c.in-Accepted.t opened;
+      states_value = ((laid c.args.bytes.now c.in-Accepted.t opened).states_are, omega (arith, states-in));
     }
 
 pub returns-then-not-has_edge : goal.returns-then-not-has_edge
 returns-then-not-has_edge c =
-    let b = c.args.bytes.now in
-    let r : Record = c.args.r in
-    let next = c.args.next in
-    let t : Table = c.in-Accepted.t in
-    let opened : open_of b ≡ Accepted t = sym c.open-answer.ensures ∙ c.in-Accepted.is in
-    let fits : record_fits t.states t.sets r next ≡ true = sym c.fits.ensures ∙ c.if-not-fits.false in
-    no_edge b r next _ t opened fits (sym c.has_edge.ensures ∙ c.if-not-has_edge.true)
+    let opened : open_of c.args.bytes.now ≡ Accepted c.in-Accepted.t = sym c.open-answer.ensures ∙ c.in-Accepted.is in
+    let fits : record_fits c.in-Accepted.t.states c.in-Accepted.t.sets c.args.r c.args.next ≡ true = sym c.fits.ensures ∙ c.if-not-fits.false in
+    no_edge c.args.bytes.now c.args.r c.args.next _ c.in-Accepted.t opened fits (sym c.has_edge.ensures ∙ c.if-not-has_edge.true)
 
 pub has_goal-goal-requires : goal.has_goal-goal-requires
 has_goal-goal-requires c =
-    let r : Record = c.args.r in
-    let next = c.args.next in
-    let t : Table = c.in-Accepted.t in
-    let fits : record_fits t.states t.sets r next ≡ true = sym c.fits.ensures ∙ c.if-not-fits.false in
-    let states-in : (r.s < t.states) × (next < t.states) = ((fits_says _ _ r next).0 fits).0.0 in
-    let b = c.args.bytes.now in
-    let opened : open_of b ≡ Accepted t = sym c.open-answer.ensures ∙ c.in-Accepted.is in
-    let inside : (s : ℕ) → s < t.states → MarkInside b t s = λ s h. mark_inside b t (laid b t opened) s h in
+    let fits : record_fits c.in-Accepted.t.states c.in-Accepted.t.sets c.args.r c.args.next ≡ true = sym c.fits.ensures ∙ c.if-not-fits.false in
+    let states-in : (c.args.r.s < c.in-Accepted.t.states) × (c.args.next < c.in-Accepted.t.states) = ((fits_says _ _ c.args.r c.args.next).0 fits).0.0 in
+    let opened : open_of c.args.bytes.now ≡ Accepted c.in-Accepted.t = sym c.open-answer.ensures ∙ c.in-Accepted.is in
+    let inside : (s : ℕ) → s < c.in-Accepted.t.states → MarkInside c.args.bytes.now c.in-Accepted.t s = λ s h. mark_inside c.args.bytes.now c.in-Accepted.t (laid c.args.bytes.now c.in-Accepted.t opened) s h in
     inside _ (omega (arith, states-in))
 
 pub fair-fair-requires : goal.fair-fair-requires
 fair-fair-requires c =
-    let r : Record = c.args.r in
-    let next = c.args.next in
-    let t : Table = c.in-Accepted.t in
-    let fits : record_fits t.states t.sets r next ≡ true = sym c.fits.ensures ∙ c.if-not-fits.false in
-    let states-in : (r.s < t.states) × (next < t.states) = ((fits_says _ _ r next).0 fits).0.0 in
-    let b = c.args.bytes.now in
-    let opened : open_of b ≡ Accepted t = sym c.open-answer.ensures ∙ c.in-Accepted.is in
-    let inside : (s : ℕ) → s < t.states → MarkInside b t s = λ s h. mark_inside b t (laid b t opened) s h in
+    let fits : record_fits c.in-Accepted.t.states c.in-Accepted.t.sets c.args.r c.args.next ≡ true = sym c.fits.ensures ∙ c.if-not-fits.false in
+    let states-in : (c.args.r.s < c.in-Accepted.t.states) × (c.args.next < c.in-Accepted.t.states) = ((fits_says _ _ c.args.r c.args.next).0 fits).0.0 in
+    let opened : open_of c.args.bytes.now ≡ Accepted c.in-Accepted.t = sym c.open-answer.ensures ∙ c.in-Accepted.is in
+    let inside : (s : ℕ) → s < c.in-Accepted.t.states → MarkInside c.args.bytes.now c.in-Accepted.t s = λ s h. mark_inside c.args.bytes.now c.in-Accepted.t (laid c.args.bytes.now c.in-Accepted.t opened) s h in
     inside _ (omega (arith, states-in))
 
 pub returns : goal.returns
 returns c =
-    let b = c.args.bytes.now in
-    let r : Record = c.args.r in
-    let next = c.args.next in
-    let t : Table = c.in-Accepted.t in
-    let opened : open_of b ≡ Accepted t = sym c.open-answer.ensures ∙ c.in-Accepted.is in
-    let fits : record_fits t.states t.sets r next ≡ true = sym c.fits.ensures ∙ c.if-not-fits.false in
-    let goal = c.has_goal-goal in
-    let fair = c.fair-fair in
-    ap Moved (c.step.ensures (block_of b) (record {
-      states = (block_counts b t opened).0;
-      goal_is = sym goal.ensures;
-      fair_is = sym fair.ensures;
+    let opened : open_of c.args.bytes.now ≡ Accepted c.in-Accepted.t = sym c.open-answer.ensures ∙ c.in-Accepted.is in
+    let fits : record_fits c.in-Accepted.t.states c.in-Accepted.t.sets c.args.r c.args.next ≡ true = sym c.fits.ensures ∙ c.if-not-fits.false in
+    ap Moved (c.step.ensures (block_of c.args.bytes.now) (record {
+      states = (block_counts c.args.bytes.now c.in-Accepted.t opened).0;
+      goal_is = sym c.has_goal-goal.ensures;
+      fair_is = sym c.fair-fair.ensures;
     }))
-    ∙ moves b r next _ t opened fits (sym c.has_edge.ensures ∙ c.if-not-has_edge.false)
+    ∙ moves c.args.bytes.now c.args.r c.args.next _ c.in-Accepted.t opened fits (sym c.has_edge.ensures ∙ c.if-not-has_edge.false)

@@ -16,11 +16,9 @@ overflow_add-k c =
 pub put_line-requires : goal.put_line-requires
 put_line-requires c =
     let run_in : let report = c.args.report.now in (c.in-Lasso.k < length report) × (length report ≡ 8192) = (lasso_fits _ _ _ _ c.in-Lasso.is c.requires.run_fits, c.states-1.given) in
-    let first = c.put_line-end.ensures in
     let r = run_in in
-    let pre = c.requires in
     let n = length-take-le (c.in-Lasso.k + 1) c.args.report.now (omega arith) in
-    omega (arith, first.upper_bound, puts_length first.puts)
+    omega (arith, c.put_line-end.ensures.upper_bound, puts_length c.put_line-end.ensures.puts)
 
 pub returns-in-Lasso : goal.returns-in-Lasso
 returns-in-Lasso c =

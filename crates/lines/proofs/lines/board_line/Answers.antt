@@ -6,22 +6,14 @@ use Rattle.lines.proofs.lines.board_line.Goals as goal
 
 pub returns-then-board-lt8 : goal.returns-then-board-lt8
 returns-then-board-lt8 c =
-    let first = c.put_text-end.ensures in
-    let p = c.put_text.ensures in
-    let e = first.ends in
-    let f = p.ends in
     record {
-      puts = puts_letter c.args.board (omega arith) (puts_on first p);
+      puts = puts_letter c.args.board (omega arith) (puts_on c.put_text-end.ensures c.put_text.ensures);
       upper_bound = omega arith;
     }
 
 pub returns-else-board-lt8 : goal.returns-else-board-lt8
 returns-else-board-lt8 c =
-    let first = c.put_text-end.ensures in
-    let p = c.put_text-else-board-lt8.ensures in
-    let e = first.ends in
-    let f = p.ends in
     record {
-      puts = puts_no_board c.args.board (omega arith) (puts_on first p);
+      puts = puts_no_board c.args.board (omega arith) (puts_on c.put_text-end.ensures c.put_text-else-board-lt8.ensures);
       upper_bound = omega arith;
     }

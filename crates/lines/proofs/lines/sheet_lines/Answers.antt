@@ -9,11 +9,8 @@ use Rattle.lines.proofs.lines.sheet_lines.Goals as goal
 
 pub returns : goal.returns
 returns c =
-    let first = c.put_line-end.ensures in
-    let second = c.board_line-end.ensures in
-    let third = c.put_line.ensures in
     let members = ap (line_of members_word) (append-nil c.args.sheet.members) in
     record {
-      puts = puts_on (puts_on first.puts second.puts) (puts_as members third.puts);
-      upper_bound = omega (arith, first.upper_bound, second.upper_bound, third.upper_bound, c.requires);
+      puts = puts_on (puts_on c.put_line-end.ensures.puts c.board_line-end.ensures.puts) (puts_as members c.put_line.ensures.puts);
+      upper_bound = omega (arith, c.put_line-end.ensures.upper_bound, c.board_line-end.ensures.upper_bound, c.put_line.ensures.upper_bound, c.requires);
     }

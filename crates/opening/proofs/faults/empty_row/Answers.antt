@@ -16,17 +16,13 @@ loop-s-init c = record { scanned = scan_begins (omega arith); from_is = c.row_st
 pub returns-then-from-to : goal.returns-then-from-to
 unfolding row_empty
 returns-then-from-to c =
-    let i = c.loop-s in
-    let b = c.args.bytes.now in
-    scan_finds i.invariant.scanned (omega arith) (eq-eqb (row_start b i.s) (row_start b (suc i.s)) (omega (arith, ap (row_start b) (add-one i.s))))
+    scan_finds c.loop-s.invariant.scanned (omega arith) (eq-eqb (row_start c.args.bytes.now c.loop-s.s) (row_start c.args.bytes.now (suc c.loop-s.s)) (omega (arith, ap (row_start c.args.bytes.now) (add-one c.loop-s.s))))
 
 pub loop-s-preserved : goal.loop-s-preserved
 unfolding row_empty
 loop-s-preserved c =
-    let i = c.loop-s in
-    let b = c.args.bytes.now in
     record {
-      scanned = scan_goes_on i.invariant.scanned (omega arith) (ne_eqb (row_start b i.s) (row_start b (suc i.s)) (omega (arith, ap (row_start b) (add-one i.s))));
+      scanned = scan_goes_on c.loop-s.invariant.scanned (omega arith) (ne_eqb (row_start c.args.bytes.now c.loop-s.s) (row_start c.args.bytes.now (suc c.loop-s.s)) (omega (arith, ap (row_start c.args.bytes.now) (add-one c.loop-s.s))));
       from_is = c.row_start-to.ensures;
     }
 

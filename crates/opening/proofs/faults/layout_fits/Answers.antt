@@ -4,6 +4,4 @@ use Rattle.opening.proofs.faults.layout_fits.Goals as goal
 
 pub returns : goal.returns
 unfolding layout_fits
-returns c =
-    let p = c.requires.states_value in
-    rw (c.word-3.ensures, c.word-2.ensures, c.word.ensures, p.0, p.1)
+returns c = rw (c.word-3.ensures, c.word-2.ensures, c.word.ensures, c.requires.states_value.0, c.requires.states_value.1)

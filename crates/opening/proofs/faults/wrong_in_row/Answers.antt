@@ -42,30 +42,20 @@ loop-i-init c = record { scanned = scan_begins (omega arith); at_first = λ e. r
 
 pub returns-then-x-least : goal.returns-then-x-least
 returns-then-x-least c =
-    let a = c.args in
-    let l = c.loop-i in
-    let row = c.requires.by_index in
-    scan_finds l.invariant.scanned c.loop-i-test.true
-    (target_wrong_lem a.bytes.now l.i (below-least _ _ _ l.least _ row l.invariant c.loop-i-test.true (omega arith)))
+    scan_finds c.loop-i.invariant.scanned c.loop-i-test.true
+    (target_wrong_lem c.args.bytes.now c.loop-i.i (below-least _ _ _ c.loop-i.least _ c.requires.by_index c.loop-i.invariant c.loop-i-test.true (omega arith)))
 
 pub returns-then-n-x : goal.returns-then-n-x
 returns-then-n-x c =
-    let a = c.args in
-    let l = c.loop-i in
-    scan_finds l.invariant.scanned c.loop-i-test.true (target_wrong_lem a.bytes.now l.i (λ r. omega (arith, r.below)))
+    scan_finds c.loop-i.invariant.scanned c.loop-i-test.true (target_wrong_lem c.args.bytes.now c.loop-i.i (λ r. omega (arith, r.below)))
 
 pub loop-i-preserved : goal.loop-i-preserved
 loop-i-preserved c =
-    let a = c.args in
-    let l = c.loop-i in
-    let b = a.bytes.now in
-    let row = c.requires.by_index in
-    let h = c.loop-i-test.true in
-    let p : l.i + 1 - 1 ≡ l.i = omega arith in
+    let p : c.loop-i.i + 1 - 1 ≡ c.loop-i.i = omega arith in
     record {
-      scanned = scan_goes_on l.invariant.scanned h ((target_says b l.i).1 (right b _ _ l.least _ row l.invariant h (omega arith) (omega arith)));
-      at_first = λ e. absurd (omega (arith, l.invariant.scanned.from));
-      after = λ q. omega (arith, ap (target b) p);
+      scanned = scan_goes_on c.loop-i.invariant.scanned c.loop-i-test.true ((target_says c.args.bytes.now c.loop-i.i).1 (right c.args.bytes.now _ _ c.loop-i.least _ c.requires.by_index c.loop-i.invariant c.loop-i-test.true (omega arith) (omega arith)));
+      at_first = λ e. absurd (omega (arith, c.loop-i.invariant.scanned.from));
+      after = λ q. omega (arith, ap (target c.args.bytes.now) p);
     }
 
 pub returns : goal.returns

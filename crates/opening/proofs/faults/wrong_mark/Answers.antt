@@ -23,18 +23,12 @@ wide-x-requires c = tt
 pub returns-then-limit-x : goal.returns-then-limit-x
 unfolding mark_wrong
 returns-then-limit-x c =
-    let b = c.args.bytes.now in
-    let i = c.loop-s in
-    let l = c.requires in
-    scan_finds i.invariant (omega arith) (le-leb (2 ^ (2 + sets_of b)) (mark b i.s) (omega (arith, limit_is _ (sets_of b) l.sets_are l.sets_to)))
+    scan_finds c.loop-s.invariant (omega arith) (le-leb (2 ^ (2 + sets_of c.args.bytes.now)) (mark c.args.bytes.now c.loop-s.s) (omega (arith, limit_is _ (sets_of c.args.bytes.now) c.requires.sets_are c.requires.sets_to)))
 
 pub loop-s-preserved : goal.loop-s-preserved
 unfolding mark_wrong
 loop-s-preserved c =
-    let b = c.args.bytes.now in
-    let i = c.loop-s in
-    let l = c.requires in
-    scan_goes_on i.invariant (omega arith) (lt-leb (2 ^ (2 + sets_of b)) (mark b i.s) (omega (arith, limit_is _ (sets_of b) l.sets_are l.sets_to)))
+    scan_goes_on c.loop-s.invariant (omega arith) (lt-leb (2 ^ (2 + sets_of c.args.bytes.now)) (mark c.args.bytes.now c.loop-s.s) (omega (arith, limit_is _ (sets_of c.args.bytes.now) c.requires.sets_are c.requires.sets_to)))
 
 pub returns : goal.returns
 returns c = scan_ends c.loop-s.invariant (omega arith)

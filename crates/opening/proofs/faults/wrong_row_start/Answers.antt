@@ -51,54 +51,40 @@ one_more b before start i k h e f g = record {
     low j (no q) l = let p : j ≡ i = omega arith in omega (arith, ap (row_start b) p)
 
 pub returns-then-before-ne0 : goal.returns-then-before-ne0
-returns-then-before-ne0 c =
-    let b = c.args.bytes.now in
-    scan_finds (scan_begins (omega arith)) (omega arith) (start_wrong b 0 (λ r. omega (arith, r.first refl)))
+returns-then-before-ne0 c = scan_finds (scan_begins (omega arith)) (omega arith) (start_wrong c.args.bytes.now 0 (λ r. omega (arith, r.first refl)))
 
 pub loop-i-init : goal.loop-i-init
 loop-i-init c =
-    let b = c.args.bytes.now in
     record {
       from = omega arith;
       to = omega arith;
       before-is = c.row_start-before.ensures;
       first = omega arith;
       rises = λ j l. absurd (omega arith);
-      below = λ j l. let p : j ≡ 0 = omega arith in omega (arith, ap (row_start b) p);
+      below = λ j l. let p : j ≡ 0 = omega arith in omega (arith, ap (row_start c.args.bytes.now) p);
     }
 
 pub returns-then-start-before : goal.returns-then-start-before
 returns-then-start-before c =
-    let b = c.args.bytes.now in
-    let l = c.loop-i in
-    scan_finds (scanned b _ _ l.invariant l.i (omega arith) (omega arith)) (omega arith)
-    (start_wrong b l.i (λ r. omega (arith, r.rises (λ e. omega arith))))
+    scan_finds (scanned c.args.bytes.now _ _ c.loop-i.invariant c.loop-i.i (omega arith) (omega arith)) (omega arith)
+    (start_wrong c.args.bytes.now c.loop-i.i (λ r. omega (arith, r.rises (λ e. omega arith))))
 
 pub returns-then-e-start : goal.returns-then-e-start
 returns-then-e-start c =
-    let b = c.args.bytes.now in
-    let l = c.loop-i in
-    scan_finds (scanned b _ _ l.invariant l.i (omega arith) (omega arith)) (omega arith) (start_wrong b l.i (λ r. omega (arith, r.below)))
+    scan_finds (scanned c.args.bytes.now _ _ c.loop-i.invariant c.loop-i.i (omega arith) (omega arith)) (omega arith) (start_wrong c.args.bytes.now c.loop-i.i (λ r. omega (arith, r.below)))
 
 pub loop-i-preserved : goal.loop-i-preserved
-loop-i-preserved c =
-    let b = c.args.bytes.now in
-    one_more b _ _ _ c.loop-i.invariant (omega arith) c.row_start-start.ensures c.if-start-before.false (omega arith)
+loop-i-preserved c = one_more c.args.bytes.now _ _ _ c.loop-i.invariant (omega arith) c.row_start-start.ensures c.if-start-before.false (omega arith)
 
 pub returns-then-before-e : goal.returns-then-before-e
 returns-then-before-e c =
-    let a = c.args in
-    let l = c.loop-i in
-    let b = a.bytes.now in
-    let p : l.i - 1 ≡ a.t.states = omega arith in
-    scan_finds (scanned b _ _ l.invariant a.t.states (omega arith) (omega arith)) (omega arith)
-    (start_wrong b a.t.states (λ r. omega (arith, r.last (omega arith), l.invariant.before-is, ap (row_start b) p)))
+    let p : c.loop-i.i - 1 ≡ c.args.t.states = omega arith in
+    scan_finds (scanned c.args.bytes.now _ _ c.loop-i.invariant c.args.t.states (omega arith) (omega arith)) (omega arith)
+    (start_wrong c.args.bytes.now c.args.t.states (λ r. omega (arith, r.last (omega arith), c.loop-i.invariant.before-is, ap (row_start c.args.bytes.now) p)))
 
 pub returns : goal.returns
 returns c =
-    let b = c.args.bytes.now in
-    let l = c.loop-i in
-    let s = scanned b _ _ l.invariant (states_of b) (omega arith) (omega arith) in
-    scan_ends (scan_on (states_of b + 1) s (omega arith) (omega arith) (λ j p q. right b _ _ l.invariant j (omega arith) (λ e.
-    let d : j ≡ l.i - 1 = omega arith in
-    omega (arith, l.invariant.before-is, ap (row_start b) d)))) (omega arith)
+    let s = scanned c.args.bytes.now _ _ c.loop-i.invariant (states_of c.args.bytes.now) (omega arith) (omega arith) in
+    scan_ends (scan_on (states_of c.args.bytes.now + 1) s (omega arith) (omega arith) (λ j p q. right c.args.bytes.now _ _ c.loop-i.invariant j (omega arith) (λ e.
+    let d : j ≡ c.loop-i.i - 1 = omega arith in
+    omega (arith, c.loop-i.invariant.before-is, ap (row_start c.args.bytes.now) d)))) (omega arith)

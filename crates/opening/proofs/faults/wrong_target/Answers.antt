@@ -16,45 +16,30 @@ loop-s-init c = record { to = omega arith; from_is = sym c.requires.rows_right.f
 
 pub wrong_in_row-found-requires : goal.wrong_in_row-found-requires
 wrong_in_row-found-requires c =
-    let a = c.args in
-    let b = a.bytes.now in
-    let p = c.requires in
-    let l = c.loop-s in
-    let e : c.row_start-to.result ≡ row_start b (suc l.s) = c.row_start-to.ensures ∙ ap (row_start b) (add-one l.s) in
+    let e : c.row_start-to.result ≡ row_start c.args.bytes.now (suc c.loop-s.s) = c.row_start-to.ensures ∙ ap (row_start c.args.bytes.now) (add-one c.loop-s.s) in
     record {
-      laid_out = p.laid_out;
-      from_le_to = (omega (arith, p.rows_right.rows_rise l.s (omega arith), l.invariant.from_is), omega (arith, row_starts_to b p.rows_right (suc l.s) (omega arith)));
-      by_index = λ i f g. first_opens b p.rows_right l.s i (omega arith) (omega (arith, l.invariant.from_is)) (omega arith) ∙ ap (eqb i) (sym l.invariant.from_is);
+      laid_out = c.requires.laid_out;
+      from_le_to = (omega (arith, c.requires.rows_right.rows_rise c.loop-s.s (omega arith), c.loop-s.invariant.from_is), omega (arith, row_starts_to c.args.bytes.now c.requires.rows_right (suc c.loop-s.s) (omega arith)));
+      by_index = λ i f g. first_opens c.args.bytes.now c.requires.rows_right c.loop-s.s i (omega arith) (omega (arith, c.loop-s.invariant.from_is)) (omega arith) ∙ ap (eqb i) (sym c.loop-s.invariant.from_is);
     }
 
 pub returns-in-At : goal.returns-in-At
 returns-in-At c =
-    let b = c.args.bytes.now in
-    let p = c.requires in
-    let l = c.loop-s in
-    let r = c.row_start-to in
-    let e : r.result ≡ row_start b (suc l.s) = r.ensures ∙ ap (row_start b) (add-one l.s) in
-    part_finds l.invariant.scanned (omega (arith, row_starts_to b p.rows_right (suc l.s) (omega arith)))
+    let e : c.row_start-to.result ≡ row_start c.args.bytes.now (suc c.loop-s.s) = c.row_start-to.ensures ∙ ap (row_start c.args.bytes.now) (add-one c.loop-s.s) in
+    part_finds c.loop-s.invariant.scanned (omega (arith, row_starts_to c.args.bytes.now c.requires.rows_right (suc c.loop-s.s) (omega arith)))
     (sym c.in-At.is ∙ c.wrong_in_row-found.ensures)
 
 pub loop-s-preserved : goal.loop-s-preserved
 loop-s-preserved c =
-    let b = c.args.bytes.now in
-    let p = c.requires in
-    let l = c.loop-s in
-    let r = c.row_start-to in
-    let e : r.result ≡ row_start b (suc l.s) = r.ensures ∙ ap (row_start b) (add-one l.s) in
+    let e : c.row_start-to.result ≡ row_start c.args.bytes.now (suc c.loop-s.s) = c.row_start-to.ensures ∙ ap (row_start c.args.bytes.now) (add-one c.loop-s.s) in
     record {
       to = omega arith;
-      from_is = r.ensures;
-      scanned = part_ends l.invariant.scanned (omega (arith, p.rows_right.rows_rise l.s (omega arith), l.invariant.from_is))
-          (omega (arith, row_starts_to b p.rows_right (suc l.s) (omega arith))) (sym c.in_default.is ∙ c.wrong_in_row-found.ensures);
+      from_is = c.row_start-to.ensures;
+      scanned = part_ends c.loop-s.invariant.scanned (omega (arith, c.requires.rows_right.rows_rise c.loop-s.s (omega arith), c.loop-s.invariant.from_is))
+          (omega (arith, row_starts_to c.args.bytes.now c.requires.rows_right (suc c.loop-s.s) (omega arith))) (sym c.in_default.is ∙ c.wrong_in_row-found.ensures);
     }
 
 pub returns : goal.returns
 returns c =
-    let b = c.args.bytes.now in
-    let l = c.loop-s in
-    let p = c.requires in
-    let d : l.s ≡ states_of b = omega arith in
-    scan_ends l.invariant.scanned (omega (arith, p.rows_right.last_row, ap (row_start b) d))
+    let d : c.loop-s.s ≡ states_of c.args.bytes.now = omega arith in
+    scan_ends c.loop-s.invariant.scanned (omega (arith, c.requires.rows_right.last_row, ap (row_start c.args.bytes.now) d))

@@ -48,19 +48,13 @@ pub nonzero_div-found : goal.nonzero_div-found
 nonzero_div-found c = omega (arith, c.loop-s.invariant.unit-is, pow_pos c.args.i)
 
 pub overflow_add-found : goal.overflow_add-found
-overflow_add-found c =
-    let a = c.args in
-    omega (arith, mod-lt (c.fair-sets.result / (1 * 2 ^ a.i % 2 ^ 64)) {m = 2} (omega arith))
+overflow_add-found c = omega (arith, mod-lt (c.fair-sets.result / (1 * 2 ^ c.args.i % 2 ^ 64)) {m = 2} (omega arith))
 
 pub loop-s-preserved : goal.loop-s-preserved
-loop-s-preserved c =
-    let a = c.args in
-    one_more a.bytes.now _ _ _ _ _ _ c.loop-s.invariant c.loop-s-test.true c.fair-sets.ensures
+loop-s-preserved c = one_more c.args.bytes.now _ _ _ _ _ _ c.loop-s.invariant c.loop-s-test.true c.fair-sets.ensures
 
 pub returns : goal.returns
 unfolding members_of block_of
 returns c =
-    let b = c.args.bytes.now in
-    let l = c.loop-s in
-    let e : l.s ≡ states_of b = omega arith in
-    l.invariant.counted ∙ ap (λ (k : ℕ). count_below k (holds (block_of b) c.args.i)) e
+    let e : c.loop-s.s ≡ states_of c.args.bytes.now = omega arith in
+    c.loop-s.invariant.counted ∙ ap (λ (k : ℕ). count_below k (holds (block_of c.args.bytes.now) c.args.i)) e

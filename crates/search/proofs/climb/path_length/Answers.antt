@@ -10,31 +10,22 @@ pub loop-slots-init : goal.loop-slots-init
 loop-slots-init c = record { down = omega arith; passed = λ label. ([], climb_begins label _ _ _, refl) }
 
 pub at-origin-requires : goal.at-origin-requires
-at-origin-requires c =
-    let k = c.requires in
-    omega (arith, k.below c.loop-slots.i (omega arith))
+at-origin-requires c = omega (arith, c.requires.below c.loop-slots.i (omega arith))
 
 pub returns-then-origin-lt2 : goal.returns-then-origin-lt2
 returns-then-origin-lt2 c label =
-    let l = c.loop-slots in
-    let k = c.requires in
-    let (done, p, e) = l.invariant.passed label in
-    let d = climb_ends k l.i (omega arith) c.at-x.ensures c.at-origin.ensures p c.if-origin-lt2.true in
+    let (done, p, e) = c.loop-slots.invariant.passed label in
+    let d = climb_ends c.requires c.loop-slots.i (omega arith) c.at-x.ensures c.at-origin.ensures p c.if-origin-lt2.true in
     omega (arith, ap length d)
 
 pub loop-slots-smaller : goal.loop-slots-smaller
-loop-slots-smaller c =
-    let l = c.loop-slots in
-    let k = c.requires in
-    climb_down k l.i (omega arith) c.at-x.ensures c.at-origin.ensures c.if-origin-lt2.false
+loop-slots-smaller c = climb_down c.requires c.loop-slots.i (omega arith) c.at-x.ensures c.at-origin.ensures c.if-origin-lt2.false
 
 pub loop-slots-preserved : goal.loop-slots-preserved
 loop-slots-preserved c =
-    let l = c.loop-slots in
-    let k = c.requires in
     record {
-      down = omega (arith, climb_down k l.i (omega arith) c.at-x.ensures c.at-origin.ensures c.if-origin-lt2.false);
+      down = omega (arith, climb_down c.requires c.loop-slots.i (omega arith) c.at-x.ensures c.at-origin.ensures c.if-origin-lt2.false);
       passed = λ label.
-          let (done, p, e) = l.invariant.passed label in
-          (_, climb_goes_on k l.i (omega arith) c.at-x.ensures c.at-origin.ensures p c.if-origin-lt2.false, omega arith);
+          let (done, p, e) = c.loop-slots.invariant.passed label in
+          (_, climb_goes_on c.requires c.loop-slots.i (omega arith) c.at-x.ensures c.at-origin.ensures p c.if-origin-lt2.false, omega arith);
     }

@@ -92,10 +92,7 @@ overflow_sub-left c =
 
 pub overflow_cast-report : goal.overflow_cast-report
 overflow_cast-report c =
-    let p = c.requires in
-    let l = c.loop-slots in
-    let a = c.args in
-    let r = record_in a.n a.m c.at-x.result (omega (arith, p.climbs.below l.i (omega arith), c.at-x.ensures, p.n_bound.2)) in
+    let r = record_in c.args.n c.args.m c.at-x.result (omega (arith, c.requires.climbs.below c.loop-slots.i (omega arith), c.at-x.ensures, c.requires.n_bound.2)) in
     omega (arith, r.s_in, ap (λ (r : Record). r.s) c.of_slot-r.ensures)
 
 pub offset_bounds-report-left : goal.offset_bounds-report-left
@@ -118,16 +115,11 @@ overflow_add-unsaved c =
     omega (arith, bit_lt b, byte_is_bit b, left-some)
 
 pub at-origin-requires : goal.at-origin-requires
-at-origin-requires c =
-    let k = c.requires.climbs in
-    let l = c.loop-slots in
-    omega (arith, k.below l.i (omega arith), c.at-x.ensures)
+at-origin-requires c = omega (arith, c.requires.climbs.below c.loop-slots.i (omega arith), c.at-x.ensures)
 
 pub returns-then-origin-lt2 : goal.returns-then-origin-lt2
 returns-then-origin-lt2 c =
-    let l = c.loop-slots in
-    let p = c.requires in
-    let both = ends p.climbs p.len_value l.invariant c.at-x.ensures c.of_slot-r.ensures c.at-origin.ensures c.if-origin-lt2.true in
+    let both = ends c.requires.climbs c.requires.len_value c.loop-slots.invariant c.at-x.ensures c.of_slot-r.ensures c.at-origin.ensures c.if-origin-lt2.true in
     record {
       value = both.0;
       report_after = both.1;
@@ -135,12 +127,8 @@ returns-then-origin-lt2 c =
 
 pub loop-slots-smaller : goal.loop-slots-smaller
 loop-slots-smaller c =
-    let l = c.loop-slots in
-    let p = c.requires in
-    down p.climbs p.len_value l.invariant c.at-x.ensures c.of_slot-r.ensures c.at-origin.ensures c.if-origin-lt2.false
+    down c.requires.climbs c.requires.len_value c.loop-slots.invariant c.at-x.ensures c.of_slot-r.ensures c.at-origin.ensures c.if-origin-lt2.false
 
 pub loop-slots-preserved : goal.loop-slots-preserved
 loop-slots-preserved c =
-    let l = c.loop-slots in
-    let p = c.requires in
-    goes_on p.climbs p.len_value l.invariant c.at-x.ensures c.of_slot-r.ensures c.at-origin.ensures c.if-origin-lt2.false
+    goes_on c.requires.climbs c.requires.len_value c.loop-slots.invariant c.at-x.ensures c.of_slot-r.ensures c.at-origin.ensures c.if-origin-lt2.false

@@ -14,8 +14,7 @@ use Rattle.search.proofs.scan.scan.Goals.{else-queue-test, then-queue-test+then-
 
 pub queue-init : goal.queue-init
 queue-init c =
-    let p = c.requires in
-    record { kept = rw (← p.slots_are) p.kept; same = rest_same _ _; between = rw (← p.slots_are) p.between; none = p.slots_are }
+    record { kept = rw (← c.requires.slots_are) c.requires.kept; same = rest_same _ _; between = rw (← c.requires.slots_are) c.requires.between; none = c.requires.slots_are }
 
 -- ---- the slot x is taken from the queue
 
@@ -54,12 +53,11 @@ row_start-i-requires c =
 
 pub loop-i-init : goal.loop-i-init
 loop-i-init c =
-    let v = c.queue.invariant in
     record {
-      turned = rw (from_is c.requires _ c.of_slot-r.ensures c.row_start-i.ensures, ← x_slot c.requires v c.queue-test.true)
-          (turned_begins live_flag c.args.bytes.now c.requires.formed _ _ _ v.kept v.between c.queue-test.true);
+      turned = rw (from_is c.requires _ c.of_slot-r.ensures c.row_start-i.ensures, ← x_slot c.requires c.queue.invariant c.queue-test.true)
+          (turned_begins live_flag c.args.bytes.now c.requires.formed _ _ _ c.queue.invariant.kept c.queue.invariant.between c.queue-test.true);
       same = rest_same _ _;
-      none = v.none;
+      none = c.queue.invariant.none;
     }
 
 -- ---- target i of the row, and the two steps along it
@@ -130,13 +128,12 @@ queue-smaller c = omega (arith, head_in c.requires c.queue.invariant c.queue-tes
 
 pub queue-preserved : goal.queue-preserved
 queue-preserved c =
-    let v = c.loop-i.invariant in
     let e = to_is c.requires _ c.of_slot-r.ensures c.row_start-to.ensures in
     record {
-      kept = v.turned.kept;
-      same = rest_trans c.queue.invariant.same v.same;
-      between = rw (add-one c.queue.head) (turned_ends live_flag _ c.requires.formed _ _ _ _ _ v.turned (omega (arith, c.loop-i-test.false, v.turned.to)));
-      none = v.none;
+      kept = c.loop-i.invariant.turned.kept;
+      same = rest_trans c.queue.invariant.same c.loop-i.invariant.same;
+      between = rw (add-one c.queue.head) (turned_ends live_flag _ c.requires.formed _ _ _ _ _ c.loop-i.invariant.turned (omega (arith, c.loop-i-test.false, c.loop-i.invariant.turned.to)));
+      none = c.loop-i.invariant.none;
     }
 
 -- ---- how the scan of the queue was left: at its end, or in the middle of a row at a bad slot

@@ -23,9 +23,8 @@ row_start-to-requires c = row_inside _ _ c.requires.asks.laid _ (omega (arith, s
 
 pub overflow_sub-result : goal.overflow_sub-result
 overflow_sub-result c =
-    let p = c.requires in
-    let (some, _) = row_in p.asks p.p_lt_slots in
-    omega (arith, from_is p.asks p.p_lt_slots c.row_start-from.ensures, to_is p.asks p.p_lt_slots c.row_start-to.ensures)
+    let (some, _) = row_in c.requires.asks c.requires.p_lt_slots in
+    omega (arith, from_is c.requires.asks c.requires.p_lt_slots c.row_start-from.ensures, to_is c.requires.asks c.requires.p_lt_slots c.row_start-to.ensures)
 
 pub overflow_add-result : goal.overflow_add-result
 overflow_add-result c =

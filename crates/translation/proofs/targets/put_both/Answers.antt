@@ -16,8 +16,7 @@ returns-then-both c =
 
 pub returns : goal.returns
 returns c =
-    let a = c.args in
-    let both = one_put a.at a.x a.y a.part.now c.put.ensures c.if-both.false in
+    let both = one_put c.args.at c.args.x c.args.y c.args.part.now c.put.ensures c.if-both.false in
     record {
       value = both.0;
       part_after = both.1;
