@@ -1,4 +1,4 @@
--- The twelve tables of docs/RULES.md, "Tables by hand", and the theorem that their rows hold. Assumes nothing.
+-- The twelve tables of docs/RULES.md, "Tables by hand", with the rows that proofs/Twelve.antt shows to hold. Assumes nothing.
 pub mod Drawn
 pub mod HandRow
 pub mod Rows

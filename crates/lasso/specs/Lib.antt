@@ -1,3 +1,3 @@
--- The numbers and words of the answers for C, and their laws. Assumes nothing.
+-- The numbers and words of the answers for C. Assumes nothing.
 pub mod Words
 pub mod Says

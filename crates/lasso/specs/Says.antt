@@ -1,4 +1,4 @@
--- What the five exported jobs say, and that each statement settles number, words and buffers.
+-- What the five exported jobs say. proofs/Says.antt has that each statement settles number, words and buffers.
 -- docs/RULES.md, "Strength of the statements". Assumes nothing.
 use Rattle.std.specs.Prelude.{◌≡◌, Bool, List, ℕ}
 use Rattle.recorder.specs.declared.Record.{Record}

@@ -1,4 +1,4 @@
--- The text of the programs is Text, what they answer Says; the rest are laws. Assumes nothing.
+-- The text of the programs is Text, what they answer Says; Puts the laws' word. Assumes nothing.
 pub mod Text
 pub mod Puts
 pub mod Says

@@ -1,4 +1,4 @@
--- What a function that writes text into a lent buffer says, and the laws of writing text after text. Assumes nothing.
+-- What a function that writes text into a lent buffer says. proofs/Puts.antt has the laws of writing text after text. Assumes nothing.
 use Rattle.std.specs.Prelude.{◌≡◌, List, ℕ, ◌+◌, ◌*◌, ◌≤◌, length, take}
 use Rattle.writing.specs.Placed.{placed}
 use Rattle.lines.specs.Text.{numbers_of}

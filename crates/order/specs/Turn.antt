@@ -1,5 +1,5 @@
--- One turn of a breadth-first search: the index `head` is next, and its edges are followed in the order of their labels. `Turning` says where a
--- turn stands: what leads from head with a label below L is dealt with. One law for each way a turn goes on or ends. Assumes nothing.
+-- One turn of a breadth-first search: the index `head` is next, and its edges are followed in the order of their labels. `Turning` says where a turn
+-- stands: what leads from head with a label below L is dealt with. proofs/Turn.antt has one law for each way a turn goes on or ends. Assumes nothing.
 use Rattle.std.specs.Prelude.{◌≡◌, ℕ, suc, ◌≤◌, ◌<◌}
 use Rattle.order.specs.Graph.{Graph}
 use Rattle.order.specs.Log.{Queue, Queued, Before, Log}

@@ -1,6 +1,5 @@
 -- Words, and the shortlex order on them: the shorter word first, and of two words of one length the one that a dictionary has first.
--- docs/RULES.md, "Lasso and choice": "the smallest k", then "least in dictionary order".
--- Assumes nothing.
+-- docs/RULES.md, "Lasso and choice": "the smallest k", then "least in dictionary order". proofs/Word.antt has the laws. Assumes nothing.
 use Rattle.std.specs.Prelude.{◌≡◌, List, [], ◌∷◌, ◌++◌, ℕ, ◌<◌, length}
 
 -- a word: letters are numbers, in the order in which they are read

@@ -1,5 +1,5 @@
 -- The members of a fairness set. docs/RULES.md, "Quote sheet": the number of members of each of the four sets, 0 for a set not below m.
--- First the definition, then the law that says the second half. Assumes nothing.
+-- proofs/MembersLaws.antt has the law that says the second half. Assumes nothing.
 use Rattle.std.specs.Prelude.{Bool, cond, ℕ, zero, suc, ◌+◌, ◌/◌, ◌%◌, ◌^◌, eqb}
 use Rattle.recorder.specs.Block.{Block}
 

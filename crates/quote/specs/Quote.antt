@@ -1,4 +1,4 @@
--- What quoting a table answers. docs/RULES.md, "Quote sheet". Definitions, then laws. Assumes nothing.
+-- What quoting a table answers. docs/RULES.md, "Quote sheet". proofs/QuoteLaws.antt has the laws. Assumes nothing.
 use Rattle.std.specs.Prelude.{List, [], ◌∷◌, ℕ}
 use Rattle.recorder.specs.Slots.{slot_count}
 use Rattle.table.specs.Open.{open_of}

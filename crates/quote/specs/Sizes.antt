@@ -1,5 +1,5 @@
--- The sizes of the recorded table. docs/RULES.md, "Translated table": S = n(n+1)·2^(m+1) slots, E = e(n+2)·2^(m+1) edges, 32 + 5S + 4E bytes.
--- First the definitions (S is the recorder's `slot_count`), then the law that says where n + 2 comes from. Assumes nothing.
+-- The sizes of the recorded table. docs/RULES.md, "Translated table": S = n(n+1)·2^(m+1) slots, E = e(n+2)·2^(m+1) edges, 32 + 5S + 4E bytes. S is
+-- the recorder's `slot_count`. proofs/Sizes.antt has the law that says where n + 2 comes from. Assumes nothing.
 use Rattle.std.specs.Prelude.{ℕ, ◌+◌, ◌*◌, ◌^◌}
 use Rattle.table.specs.Layout.{length_of}
 

@@ -1,6 +1,6 @@
--- The third demand, of the rules themselves, in one statement, a field for each sentence; and that the numbers of a run of records are
--- the numbers of docs/RULES.md, "Lasso and choice", and determine the run. Over any flag, then read for the flag of "The recorder". The bytes
--- of a translated table come later. Assumes nothing.
+-- The third demand, of the rules themselves, in one statement that proofs/Demand3.antt proves, a field for each sentence; and that the numbers of a
+-- run of records are the numbers of docs/RULES.md, "Lasso and choice", and determine the run. Over any flag, then read for the flag of "The
+-- recorder". The bytes of a translated table come later. Assumes nothing.
 use Rattle.std.specs.Prelude.{◌≡◌, true, false, cond, ◌↔◌, List, ℕ, suc, ◌+◌, ◌*◌, ◌<◌, leb, length, get_or}
 use Rattle.recorder.specs.Block.{Block}
 use Rattle.recorder.specs.Lasso.{Lasso, Run, state}

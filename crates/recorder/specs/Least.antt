@@ -1,6 +1,6 @@
--- The second demand, of the rules themselves: the least bad word of the slot graph is the list of numbers of the least lasso; there
--- is at most one least lasso; and no run ends bad exactly if there is no lasso of any length. Over any flag, then read for the flag of
--- docs/RULES.md, "The recorder". Assumes nothing.
+-- The second demand, of the rules themselves, as a statement that proofs/Least.antt proves: the least bad word of the slot graph is the list of
+-- numbers of the least lasso; there is at most one least lasso; and no run ends bad exactly if there is no lasso of any length. Over any flag, then
+-- read for the flag of docs/RULES.md, "The recorder". Assumes nothing.
 use Rattle.std.specs.Prelude.{◌≡◌, ◌↔◌, List, ℕ}
 use Rattle.order.specs.Word.{Word}
 use Rattle.order.specs.Graph.{Safe, LeastBad}

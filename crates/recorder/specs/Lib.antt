@@ -1,4 +1,4 @@
--- The rules, Block to Says, and then what follows from them, each file over the ones before it. Assumes nothing.
+-- The rules, Block to Says, and then the statements that proofs/ proves, each file over the ones before it. Assumes nothing.
 pub mod Block
 pub mod Lasso
 pub mod Flag

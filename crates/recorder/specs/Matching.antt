@@ -1,4 +1,4 @@
--- The runs of records match one to one the original's runs with a choice of where to record.
+-- That the runs of records match one to one the original's runs with a choice of where to record, as a statement that proofs/Matching.antt proves.
 -- Assumes nothing.
 use Rattle.std.specs.Prelude.{◌≡◌, List, map, ℕ, length}
 use Rattle.recorder.specs.Block.{Block}

@@ -1,5 +1,4 @@
--- The record at place i of a run that records at the place l, written out, and what its flag and its bits say.
--- Assumes nothing.
+-- The record at place i of a run that records at the place l, written out. proofs/Places.antt has what its flag and its bits say. Assumes nothing.
 use Rattle.std.specs.Prelude.{cond, List, ℕ, zero, suc, leb}
 use Rattle.std.specs.Int.Bits.{bit_or}
 use Rattle.recorder.specs.Block.{Block}

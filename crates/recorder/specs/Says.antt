@@ -1,5 +1,5 @@
--- What the record's methods say. docs/RULES.md, "The recorder". A method is told a few numbers of the block, and its answer is the one of the
--- rules for every block that has these numbers. Last, that each statement settles its answer. Assumes nothing.
+-- What the record's methods say. docs/RULES.md, "The recorder". A method is told a few numbers of the block, and its answer is the one of the rules
+-- for every block that has these numbers. proofs/Says.antt has that each statement settles its answer. Assumes nothing.
 use Rattle.std.specs.Prelude.{◌≡◌, Bool, ℕ}
 use Rattle.recorder.specs.Block.{Block}
 use Rattle.recorder.specs.Flag.{live_flag}

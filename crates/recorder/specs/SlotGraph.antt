@@ -1,6 +1,6 @@
--- The graph that the search walks: its nodes are slot numbers, its edges the steps of their records, and a node's label the
--- record's number in a tie. docs/RULES.md, "The recorder". The word of a run says where the run ends, since the labels tell apart
--- what one slot leads to. Assumes nothing.
+-- The graph that the search walks: its nodes are slot numbers, its edges the steps of their records, and a node's label the record's number in a tie.
+-- docs/RULES.md, "The recorder". proofs/SlotGraph.antt has that the word of a run says where the run ends, since the labels tell apart what one slot
+-- leads to. Assumes nothing.
 use Rattle.std.specs.Prelude.{◌≡◌, Bool, true, ℕ}
 use Rattle.order.specs.Graph.{Graph}
 use Rattle.recorder.specs.Block.{Block}

@@ -1,6 +1,5 @@
--- Slot numbers. docs/RULES.md, "The recorder": the slot number of a record is ((s(n+1) + t)·2 + live)·2^m + v, and there are
--- S = n(n+1)·2^(m+1) of them. First the definitions, then the laws: both round trips and the range, over any n and m.
--- Assumes nothing.
+-- Slot numbers. docs/RULES.md, "The recorder": the slot number of a record is ((s(n+1) + t)·2 + live)·2^m + v, and there are S = n(n+1)·2^(m+1) of
+-- them. proofs/Slots.antt has the laws: both round trips and the range, over any n and m. Assumes nothing.
 use Rattle.std.specs.Prelude.{Bool, cond, eqb}
 use Prim.Native.Nat.{ℕ, ◌+◌, ◌*◌, ◌/◌, ◌%◌, ◌^◌, ◌≤◌, ◌<◌}
 use Rattle.recorder.specs.declared.Record.{Record}

@@ -1,5 +1,4 @@
--- The numbers of a run of records: they determine the run, and are those by which lassos are ordered.
--- Assumes nothing.
+-- The numbers of a run of records. proofs/Words.antt has that they determine the run, and are those by which lassos are ordered. Assumes nothing.
 use Rattle.std.specs.Prelude.{List, map, ℕ}
 use Rattle.recorder.specs.Block.{Block}
 use Rattle.recorder.specs.Recorder.{number}

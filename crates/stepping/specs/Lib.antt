@@ -1,3 +1,3 @@
--- A step's answer, and its laws. Assumes nothing.
+-- A step's answer, and what holds of a record that moved. Assumes nothing.
 pub mod Step
 pub mod Laws

@@ -1,4 +1,5 @@
--- What a scan answers as `Found`: the first index, or nothing. One definition for every "first such index" of the rules, and its laws. Assumes nothing.
+-- What a scan answers as `Found`: the first index, or nothing. One definition for every "first such index" of the rules. proofs/Answers.antt has its
+-- laws. Assumes nothing.
 use Rattle.std.specs.Prelude.{ℕ}
 use Rattle.std.proofs.Math.Option.{Option, none, some}
 use Rattle.table.specs.declared.Found.{Found}

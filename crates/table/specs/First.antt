@@ -1,5 +1,5 @@
--- The first index at which a test passes. docs/RULES.md, "Refusal list" ("first such index", "first such state") and "Quote sheet"
--- ("the first row below"). First the definition, then its laws. Assumes nothing.
+-- The first index at which a test passes. docs/RULES.md, "Refusal list" ("first such index", "first such state") and "Quote sheet" ("the first row
+-- below"). proofs/First.antt has its laws. Assumes nothing.
 use Rattle.std.specs.Prelude.{Bool, true, false, ℕ, zero, suc, ◌-◌}
 use Rattle.std.proofs.Math.Option.{Option, none, some}
 

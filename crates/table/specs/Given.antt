@@ -1,5 +1,5 @@
--- A list of lines of which the first that is given is the answer: docs/RULES.md, "Refusal list". The definitions and the laws for going down such a
--- list are over any type of answer. Assumes nothing.
+-- A list of lines of which the first that is given is the answer: docs/RULES.md, "Refusal list". Over any type of answer. proofs/Given.antt has the
+-- laws for going down such a list. Assumes nothing.
 use Rattle.std.specs.Prelude.{Bool, true, false, List, [], ◌∷◌, ℕ}
 use Rattle.std.proofs.Math.Option.{Option, none, some}
 

@@ -1,6 +1,6 @@
 -- The refusal list's order, and that every job goes down it. docs/RULES.md, "Refusal list": of the lines that apply, the first in the list is given.
--- The order is that of positions in the list, not of numbers: 14 and 15 stand straight after 3. First the definitions, then the laws, over any list
--- of lines. Assumes nothing.
+-- The order is that of positions in the list, not of numbers: 14 and 15 stand straight after 3. proofs/InOrder.antt has the laws, over any list of
+-- lines. Assumes nothing.
 use Rattle.std.specs.Prelude.{◌≡◌, true, false, ◌⊎◌, List, [], ◌∷◌, ◌++◌, ℕ, suc, ◌≤◌, eqb}
 use Rattle.std.proofs.Math.Option.{Option, none, some}
 use Rattle.table.specs.Given.{first_given}

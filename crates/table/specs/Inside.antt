@@ -1,5 +1,5 @@
--- What a reading function asks: that the place that it reads stands inside the bytes, by the counts that it is given. First the three
--- statements, then the laws by which a caller has them. Assumes nothing.
+-- What a reading function asks: that the place that it reads stands inside the bytes, by the counts that it is given. proofs/Inside.antt has the laws
+-- by which a caller has these three statements. Assumes nothing.
 use Rattle.std.specs.Prelude.{◌≡◌, List, ℕ, ◌+◌, ◌*◌, ◌≤◌, ◌<◌, length}
 use Rattle.table.specs.Layout.{states_of, edges_of, rows_at, targets_at, marks_at}
 use Rattle.table.specs.declared.Table.{Table}

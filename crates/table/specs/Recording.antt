@@ -1,5 +1,5 @@
--- The recorded table of an accepted one: its slots, the slot graph, and what a slot leads to. docs/RULES.md, "The recorder". First the definitions,
--- then the laws that what a step gives is in range and has the slot that the rules say. Over any flag. Assumes nothing.
+-- The recorded table of an accepted one: its slots, the slot graph, and what a slot leads to. docs/RULES.md, "The recorder". proofs/Recording.antt
+-- has the laws that what a step gives is in range and has the slot that the rules say. Over any flag. Assumes nothing.
 use Rattle.std.specs.Prelude.{Bool, List, ℕ, suc}
 use Rattle.order.specs.Graph.{Graph}
 use Rattle.recorder.specs.Flag.{Flag}

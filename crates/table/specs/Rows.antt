@@ -1,4 +1,5 @@
--- Laws of the row starts: they rise, every target stands in a row, and which targets open one. Assumes nothing.
+-- What is said of the row starts: they rise, and lines 5 and 6 rest on them. proofs/Rows.antt has what follows: every target stands in a row, and
+-- which targets open one. Assumes nothing.
 use Rattle.std.specs.Prelude.{◌≡◌, List, ℕ, suc, ◌≤◌, ◌<◌}
 use Rattle.table.specs.Layout.{states_of, edges_of, row_start}
 

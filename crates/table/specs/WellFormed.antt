@@ -1,5 +1,5 @@
--- Opening accepts exactly the tables that docs/RULES.md, "The table file", describes. First the description, as a record, then what
--- each line of the refusal list says where it is not given, then the theorem. Assumes nothing.
+-- Opening accepts exactly the tables that docs/RULES.md, "The table file", describes. This is the description, as a record. proofs/WellFormed.antt
+-- has what each line of the refusal list says where it is not given, and the theorem. Assumes nothing.
 use Rattle.std.specs.Prelude.{◌≡◌, List, ℕ, suc, ◌+◌, ◌≤◌, ◌<◌, length}
 use Rattle.recorder.specs.Block.{HasBit}
 use Rattle.table.specs.Layout.{kind_of, states_of, edges_of, sets_of, rows_offset, targets_offset, marks_offset, rows_at, targets_at, marks_at, length_of, row_start, target, mark}

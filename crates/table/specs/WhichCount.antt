@@ -1,5 +1,5 @@
--- Which count is wrong: opening gives 3, 14 and 15 exactly where docs/RULES.md, "Refusal list", says. First what the statements speak of, then that number
--- and place tell a refusal, then laws of a line, then the three statements. Assumes nothing.
+-- Which count is wrong: opening gives 3, 14 and 15 exactly where docs/RULES.md, "Refusal list", says. These are the words of the statements.
+-- proofs/WhichCount.antt has that number and place tell a refusal, and the three statements. Assumes nothing.
 use Rattle.std.specs.Prelude.{◌≡◌, ℕ, ◌≤◌, length}
 use mathlib.Core.List.{List}
 use Rattle.table.specs.Layout.{kind_of}

@@ -1,5 +1,5 @@
 // The reading functions: what stands at a place of the file. Each asks just that the place is inside; an accepted table's places are, by
-// the laws of specs/Inside.antt.
+// the laws of proofs/Inside.antt.
 ghost use Rattle.std.specs.Prelude.{◌≡◌, ◌+◌, ◌≤◌, ◌<◌, length};
 ghost use Rattle.table.specs.Layout.{word_at, states_of, row_start as rowStartOf, target as target_of, mark as mark_of};
 ghost use Rattle.table.specs.Inside.{RowInside, TargetInside, MarkInside};

@@ -1,4 +1,5 @@
--- Laws of specs/ReadBack.antt. Assumes nothing.
+-- The translated file, read back with the table's own reading functions: its counts, row starts, targets and marks; from slot p to slot q there is an
+-- edge exactly if the slot graph has one; rows rise strictly. docs/RULES.md, "Translated table". By any flag R. Assumes nothing.
 use Rattle.std.specs.Prelude.{◌≡◌, true, ◌↔◌, List, ℕ, suc, ◌-◌, ◌≤◌, ◌<◌, get_or}
 use Rattle.std.proofs.Common.{arith}
 use Rattle.recorder.specs.Flag.{Flag}

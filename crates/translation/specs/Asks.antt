@@ -1,5 +1,5 @@
--- What each writer asks of the table: it is accepted, and its slots are counted. Then what is known of slot p's record, which the code carries along
--- with p, and the numbers that the code computes of it: its mark, and how long its row is. Assumes nothing.
+-- What each writer asks of the table: it is accepted, and its slots are counted. proofs/Asks.antt has what is known of slot p's record, which the
+-- code carries along with p, and the numbers that the code computes of it: its mark, and how long its row is. Assumes nothing.
 use Rattle.std.specs.Prelude.{◌≡◌, List, ℕ}
 use Rattle.recorder.specs.Slots.{record_of_slot}
 use Rattle.recorder.specs.declared.Record.{Record}

@@ -1,7 +1,6 @@
--- Demand 3, of the bytes that are written: the finite runs of the translated file from its starts match one to one the original's finite runs from its
--- starts, each with a choice of the place at which to record. First the statement, a field for each sentence, then the proof: by `edge_read` and
--- `start_read` the runs of the file are the runs of records. Over any flag R, then read for the flag of docs/RULES.md, "The recorder". Assumes
--- nothing.
+-- Demand 3, of the bytes that are written: the finite runs of the translated file from its starts match one to one the original's finite runs from
+-- its starts, each with a choice of the place at which to record. This is the statement, a field for each sentence; proofs/Demand3.antt has the
+-- proof. Over any flag R, then read for the flag of docs/RULES.md, "The recorder". Assumes nothing.
 use Rattle.std.specs.Prelude.{◌≡◌, true, false, ◌↔◌, List, map, ℕ, suc, ◌<◌, length}
 use Rattle.recorder.specs.Flag.{Flag, live_flag}
 use Rattle.recorder.specs.Lasso.{Lasso, Run, state}
@@ -53,9 +52,3 @@ pub record TranslatesBy (R : Flag) (b : List ℕ) (L : List ℕ → ℕ → Type
 -- the same by the rules' flag and lassos
 abbrev pub Translates : List ℕ → List ℕ → Type 0
 Translates b F = TranslatesBy live_flag b (Lasso (block_of b)) F
-
--- ---- the proof
-
-module _ (R : Flag) (b : List ℕ) (f : WellFormed b) where
-  abbrev F : List ℕ
-  F = file_of R b

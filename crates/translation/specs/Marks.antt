@@ -1,5 +1,5 @@
--- The marks of the translated file: start, goal and bad are the record's. docs/RULES.md, "Translated table": bit 0 start, bit 1 the goal mark of s,
--- bit 6 bad. By any flag R. Assumes nothing.
+-- Bit 6 of a mark. proofs/MarksLaws.antt has that start, goal and bad of the translated file are the record's. docs/RULES.md, "Translated table": bit
+-- 0 start, bit 1 the goal mark of s, bit 6 bad. By any flag R. Assumes nothing.
 use Rattle.std.specs.Prelude.{Bool, List, ℕ, ◌/◌, ◌%◌}
 use Rattle.std.proofs.Math.Dec.{eqb}
 use Rattle.recorder.specs.Flag.{Flag}
@@ -10,7 +10,3 @@ use Rattle.translation.specs.File.{file_of}
 -- bit 6 of a mark: the slot is bad
 unfoldable pub bad_in : List ℕ → ℕ → Bool
 bad_in F p = eqb (mark F p / 64 % 2) 1
-
-module _ (R : Flag) (b : List ℕ) (f : WellFormed b) where
-  abbrev F : List ℕ
-  F = file_of R b

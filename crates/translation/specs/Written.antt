@@ -1,5 +1,5 @@
--- What the contract of `translate` tells of a translation that was written, and from it to demand 3 in one step: the bytes that it answers to have
--- written are a translation of the table. Assumes nothing.
+-- What the contract of `translate` tells of a translation that was written. proofs/Written.antt goes from it to demand 3 in one step: the bytes that
+-- it answers to have written are a translation of the table. Assumes nothing.
 use Rattle.std.specs.Prelude.{◌≡◌, List, ℕ, ◌≤◌}
 use Rattle.std.proofs.Math.Option.{none}
 use Rattle.std.proofs.Math.ListN.{length}

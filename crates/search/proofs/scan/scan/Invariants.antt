@@ -2,7 +2,6 @@
 use Prim.Native.Nat.{◌-◌}
 use Rattle.recorder.specs.Flag.{live_flag}
 use Rattle.search.specs.Scanning.{Waiting, Within}
-use Prim.Native.Nat.{◌-◌}
 use Rattle.search.proofs.scan.scan.Given as goal
 
 abbrev pub invariant-loop-i : goal.invariant-loop-i
