@@ -3,7 +3,7 @@ use Rattle.std.specs.Prelude.{◌≡◌, Bool, List, ℕ}
 use Rattle.std.proofs.Common.{sym, ap, ◌∙◌}
 use Rattle.order.proofs.Settled.{both_settled}
 use Rattle.recorder.specs.declared.Record.{Record}
-use Rattle.search.specs.Laws.{search_unique}
+use Rattle.search.proofs.Laws.{search_unique}
 use Rattle.translation.proofs.Laws.{translate_unique}
 use Rattle.lasso.specs.Words.{search_number, search_words, translate_number, translate_words}
 use Rattle.lasso.specs.Says.{OpenSaid, QuoteSaid, StepSaid, SearchSaid, TranslateSaid}

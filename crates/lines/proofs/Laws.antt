@@ -12,7 +12,7 @@ use Rattle.quote.specs.declared.Quoted.{Quoted}
 use Rattle.search.specs.Searched.{refusal_of, SearchFor, SearchSays}
 use Rattle.search.specs.declared.Answer.{Answer}
 use Rattle.search.specs.declared.Answer.TheVariants.{Lasso, Holds, Refused}
-use Rattle.search.specs.Laws.{search_unique}
+use Rattle.search.proofs.Laws.{search_unique}
 use Rattle.translation.specs.Translated.{TranslateSays}
 use Rattle.translation.proofs.Written.{written_says, refused_leaves}
 use Rattle.translation.specs.declared.Answer.{Answer as Translated}

@@ -1,7 +1,8 @@
 -- Laws of specs/Puts.antt. Assumes nothing.
 use Rattle.std.specs.Prelude.{◌≡◌, refl, List, [], ◌∷◌, ◌++◌, ℕ, suc, ◌+◌, ◌*◌, ◌^◌, ◌≤◌, ◌<◌, length, get_or, set, take}
 use Rattle.std.proofs.Common.{sym, ap, ◌∙◌, subst, append_assoc, append-nil, arith, length-append, length-set, take-suc, take_all}
-use Rattle.writing.specs.Placed.{placed, placed_none, placed_one, placed_on, length-placed}
+use Rattle.writing.specs.Placed.{placed}
+use Rattle.writing.proofs.Placed.{placed_none, placed_one, placed_on, length-placed}
 use Rattle.io.specs.Digits.{last_digits, IsDigitCount}
 use Rattle.lines.proofs.Decimal.{decimal_is, decimal_short}
 use Rattle.lines.specs.Text.{decimal_of, numbers_of, line_of}

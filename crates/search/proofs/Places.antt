@@ -17,11 +17,13 @@ use Rattle.table.specs.Recording.{slots_of, graph_of, next_of, state_of, from_of
 use Rattle.table.proofs.Recording.{block_states, block_sets, state_in, step_slot, step_range}
 use Rattle.table.proofs.Row.{row_to_lem}
 use Rattle.table.proofs.Sound.{sound}
-use Rattle.search.specs.Workspace.{slot_at, kept_le}
-use Rattle.search.specs.Meet.{MeetAsks, MeetSays, MeetIfSays, Met, asks_as, says_as, if_says_as}
+use Rattle.search.specs.Workspace.{slot_at}
+use Rattle.search.proofs.Workspace.{kept_le}
+use Rattle.search.specs.Meet.{MeetAsks, MeetSays, MeetIfSays}
+use Rattle.search.proofs.MeetLaws.{Met, asks_as, says_as, if_says_as}
 use Rattle.search.specs.Scan.{ScanAsks, Stopped}
-use Rattle.search.specs.Scanning.{Waiting, Within}
-use Rattle.search.specs.Follow.{Turned, edge_there, first_asks, other_asks, turned_stops, turned_on}
+use Rattle.search.proofs.Scanning.{Waiting, Within}
+use Rattle.search.proofs.Follow.{Turned, edge_there, first_asks, other_asks, turned_stops, turned_on}
 
 module _ {bytes work₀ : List ℕ} {t : Table} {slots queued : ℕ} (asks : ScanAsks live_flag bytes t slots work₀ queued) where
   -- ---- the slot that stands at head in the queue

@@ -15,8 +15,8 @@ use Rattle.table.specs.Layout.{states_of, edges_of, sets_of, row_start, target}
 use Rattle.table.specs.Recording.{slots_of, from_of, to_of}
 use Rattle.table.specs.WellFormed.{WellFormed}
 use Rattle.writing.specs.File.{join_to}
-use Rattle.writing.specs.Joined.{join_step, join_rise}
-use Rattle.writing.specs.FileRead.{length_with}
+use Rattle.writing.proofs.Joined.{join_step, join_rise}
+use Rattle.writing.proofs.FileRead.{length_with}
 use Rattle.translation.specs.File.{along_of, along_from, row_of, start_of_row, slot_mark, file_of}
 
 -- ---- one row

@@ -23,9 +23,10 @@ use Rattle.table.specs.declared.refusal.Refusal.{Refusal}
 use Rattle.table.specs.declared.refusal.Refusal.TheVariants.{WrongMark, ShortOutput}
 use Rattle.table.specs.Recording.{slots_of}
 use Rattle.writing.specs.File.{listed, header_of, file_with}
-use Rattle.writing.specs.Listed.{length-listed}
-use Rattle.writing.specs.Little.{length_little}
-use Rattle.writing.specs.Placed.{placed, length-placed, part_length, part_on}
+use Rattle.writing.proofs.Listed.{length-listed}
+use Rattle.writing.proofs.Little.{length_little}
+use Rattle.writing.specs.Placed.{placed}
+use Rattle.writing.proofs.Placed.{length-placed, part_length, part_on}
 use Rattle.translation.specs.File.{start_of_row, targets_to, slot_mark, file_of}
 use Rattle.translation.proofs.Counts.{all_targets, length_file}
 use Rattle.translation.specs.Translated.{size_of, translate_lines, refusal_of, TranslateFor, TranslateSays}

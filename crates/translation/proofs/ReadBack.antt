@@ -9,7 +9,7 @@ use Rattle.table.specs.BlockOf.{block_of}
 use Rattle.table.specs.WellFormed.{WellFormed}
 use Rattle.table.specs.Recording.{slots_of, graph_of}
 use Rattle.quote.proofs.Sizes.{edges_small}
-use Rattle.writing.specs.FileRead as file
+use Rattle.writing.proofs.FileRead as file
 use Rattle.writing.specs.FileRead.{NumbersFit}
 use Rattle.translation.specs.File.{row_of, targets_to, start_of_row, slot_mark, file_of}
 use Rattle.translation.proofs.Counts.{all_targets}

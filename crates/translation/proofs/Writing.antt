@@ -12,8 +12,9 @@ use Rattle.table.specs.BlockOf.{block_of}
 use Rattle.table.specs.Layout.{little_endian, target}
 use Rattle.table.specs.Recording.{next_of, from_of, to_of}
 use Rattle.writing.specs.File.{listed, join_to}
-use Rattle.writing.specs.Listed.{length-listed, listed_next}
-use Rattle.writing.specs.Placed.{placed, placed_none, placed_all, byte_next, little_next, little_length, little_all}
+use Rattle.writing.proofs.Listed.{length-listed, listed_next}
+use Rattle.writing.specs.Placed.{placed}
+use Rattle.writing.proofs.Placed.{placed_none, placed_all, byte_next, little_next, little_length, little_all}
 use Rattle.translation.specs.File.{along_of, along_from, row_of, targets_to, start_of_row, slot_mark}
 use Rattle.translation.proofs.Counts.{starts_step, starts_rise}
 

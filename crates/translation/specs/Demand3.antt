@@ -8,9 +8,7 @@ use Rattle.recorder.specs.Recorder.{Choice, Fits, record_at, choice_of}
 use Rattle.recorder.specs.SlotGraph.{at, slot}
 use Rattle.recorder.specs.Looped.{Looped}
 use Rattle.table.specs.BlockOf.{block_of}
-use Rattle.table.specs.WellFormed.{WellFormed}
 use Rattle.table.specs.Recording.{state_of}
-use Rattle.translation.specs.File.{file_of}
 use Rattle.translation.specs.Marks.{bad_in}
 
 -- ---- the statement

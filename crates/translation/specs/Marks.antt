@@ -2,10 +2,7 @@
 -- 0 start, bit 1 the goal mark of s, bit 6 bad. By any flag R. Assumes nothing.
 use Rattle.std.specs.Prelude.{Bool, List, ℕ, ◌/◌, ◌%◌}
 use Rattle.std.proofs.Math.Dec.{eqb}
-use Rattle.recorder.specs.Flag.{Flag}
 use Rattle.table.specs.Layout.{mark}
-use Rattle.table.specs.WellFormed.{WellFormed}
-use Rattle.translation.specs.File.{file_of}
 
 -- bit 6 of a mark: the slot is bad
 unfoldable pub bad_in : List ℕ → ℕ → Bool

@@ -1,5 +1,5 @@
 -- The workspace is cleared, the starts are queued and scanned, and what the scan saw is the answer. The laws are
--- those of specs/Find.antt.
+-- those of proofs/FindLaws.antt.
 use mathlib.Core.Path.{◌≡◌, sym, ap₂, ◌∙◌}
 use Prim.Native.Nat.{ℕ, ◌*◌, ◌≤◌}
 use native.Mathlib.Omega.{arith}
@@ -7,9 +7,10 @@ use lib.ListN.{length, drop}
 use Rattle.recorder.specs.Flag.{live_flag}
 use Rattle.recorder.specs.Slots.{slot_count}
 use Rattle.table.proofs.Recording.{slots_few}
-use Rattle.writing.specs.Cleared.{cleared}
-use Rattle.search.specs.Climb.{path_by, label_of, path_to}
-use Rattle.search.specs.Find.{FindAsks, Told, starts_asked, scan_asked, rest_stays, seen_as, stopped_climbs, stopped_tells, says_lasso, says_holds, clears}
+use Rattle.search.specs.Climb.{path_by, label_of}
+use Rattle.search.proofs.ClimbLaws.{path_to}
+use Rattle.search.specs.Find.{FindAsks}
+use Rattle.search.proofs.FindLaws.{Told, starts_asked, scan_asked, rest_stays, seen_as, stopped_climbs, stopped_tells, says_lasso, says_holds, clears}
 use Rattle.search.specs.Scan.{Stopped}
 use Rattle.search.proofs.find.Goals as goal
 

@@ -4,11 +4,10 @@ use native.Mathlib.Omega.{arith}
 use Rattle.recorder.specs.Slots.{slot_count}
 use Rattle.table.specs.Open.{open_of}
 use Rattle.table.proofs.WellFormed.{well_formed, laid, why_is}
-use Rattle.table.specs.declared.Table.{Table}
 use Rattle.table.specs.declared.Opened.TheVariants.{Accepted}
 use Rattle.table.specs.Recording.{slots_of}
 use Rattle.table.proofs.Recording.{slots_few}
-use Rattle.search.specs.Laws.{table_refused, short_workspace, short_report, finds}
+use Rattle.search.proofs.Laws.{table_refused, short_workspace, short_report, finds}
 use Rattle.search.proofs.search.Goals as goal
 
 pub returns-in_default : goal.returns-in_default

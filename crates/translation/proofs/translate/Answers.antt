@@ -2,23 +2,18 @@
 -- its writer.
 use mathlib.Core.Path.{◌≡◌, sym, ap₂, ◌∙◌}
 use mathlib.Core.List.{List}
-use Prim.Native.Nat.{ℕ, ◌+◌, ◌-◌, ◌*◌, ◌≤◌}
+use Prim.Native.Nat.{ℕ, ◌+◌, ◌*◌, ◌≤◌}
 use native.Mathlib.Omega.{arith}
-use lib.ListN.{length, take, drop}
+use lib.ListN.{length}
 use lib.Seq.{length-take-le}
 use Rattle.recorder.specs.Flag.{live_flag}
 use Rattle.recorder.specs.Slots.{slot_count}
-use Rattle.table.specs.Layout.{little_endian}
 use Rattle.table.specs.Open.{open_of}
-use Rattle.table.specs.WellFormed.{WellFormed}
 use Rattle.table.proofs.WellFormed.{well_formed, laid, why_is}
 use Rattle.table.specs.declared.Table.{Table}
 use Rattle.table.specs.declared.Opened.TheVariants.{Accepted}
-use Rattle.writing.specs.File.{listed, header_of}
-use Rattle.writing.specs.Placed.{placed}
 use Rattle.quote.specs.Sizes.{edge_count}
 use Rattle.translation.specs.Asks.{Asks}
-use Rattle.translation.specs.File.{start_of_row, targets_to}
 use Rattle.translation.proofs.Laws.{Counted, table_refused, short_output, translated, size_is, edges_counted, sizes_small, header_there, rows_room, rows_there, targets_room, targets_there, marks_room, marks_there}
 use Rattle.translation.proofs.translate.Goals as goal
 

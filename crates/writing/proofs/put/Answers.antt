@@ -1,6 +1,6 @@
 -- Its four stores place the four bytes.
 use Rattle.std.proofs.Common.{arith}
-use Rattle.writing.specs.Placed.{placed_four}
+use Rattle.writing.proofs.Placed.{placed_four}
 use Rattle.writing.proofs.put.Goals as goal
 
 pub returns : goal.returns

@@ -3,7 +3,7 @@ use mathlib.Core.Path.{refl, ap}
 use mathlib.Core.List.{[]}
 use native.Mathlib.Omega.{arith}
 use lib.ListN.{length}
-use Rattle.search.specs.Climb.{climb_begins, climb_down, climb_goes_on, climb_ends}
+use Rattle.search.proofs.ClimbLaws.{climb_begins, climb_down, climb_goes_on, climb_ends}
 use Rattle.search.proofs.climb.path_length.Goals as goal
 
 pub loop-slots-init : goal.loop-slots-init

@@ -4,7 +4,7 @@ use mathlib.Core.List.{List}
 use Prim.Native.Nat.{ℕ, ◌+◌, ◌≤◌}
 use lib.ListN.{length}
 use Rattle.order.specs.Word.{Word}
-use Rattle.search.specs.Climb.{Climbing}
+use Rattle.search.proofs.ClimbLaws.{Climbing}
 use Rattle.search.proofs.climb.path_length.Given as goal
 
 pub record Counting (w : List ℕ) (S head i len : ℕ) : Type 0 where

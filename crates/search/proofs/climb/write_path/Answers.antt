@@ -12,10 +12,12 @@ use Rattle.order.specs.Word.{Word}
 use Rattle.recorder.specs.Slots.{record_of_slot}
 use Rattle.recorder.proofs.Slots.{record_in, bit_lt}
 use Rattle.recorder.specs.declared.Record.{Record}
-use Rattle.writing.specs.Placed.{write_down}
+use Rattle.writing.proofs.Placed.{write_down}
 use Rattle.search.specs.Workspace.{origin_at, slot_at}
-use Rattle.search.specs.Report.{halves, odds, number_half, number_odd}
-use Rattle.search.specs.Climb.{Climbs, label_of, path_by, climb_begins, climb_down, climb_goes_on, climb_ends, climb_left}
+use Rattle.search.specs.Report.{halves, odds}
+use Rattle.search.proofs.Report.{number_half, number_odd}
+use Rattle.search.specs.Climb.{Climbs, label_of, path_by}
+use Rattle.search.proofs.ClimbLaws.{climb_begins, climb_down, climb_goes_on, climb_ends, climb_left}
 use Rattle.search.proofs.climb.write_path.Invariants.{Written, Writing}
 use Rattle.search.proofs.climb.write_path.Goals as goal
 

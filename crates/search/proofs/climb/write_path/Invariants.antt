@@ -5,7 +5,8 @@ use Prim.Native.Nat.{ℕ, ◌+◌, ◌≤◌}
 use lib.ListN.{length, take, drop}
 use Rattle.order.specs.Word.{Word}
 use Rattle.search.specs.Report.{halves, odds}
-use Rattle.search.specs.Climb.{Climbing, label_of}
+use Rattle.search.specs.Climb.{label_of}
+use Rattle.search.proofs.ClimbLaws.{Climbing}
 use Rattle.search.proofs.climb.write_path.Given as goal
 
 -- The letters `done` are written into the words from left up to len, and counted.

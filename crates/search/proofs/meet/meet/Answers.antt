@@ -3,7 +3,7 @@ use mathlib.Core.Path.{refl}
 use Prim.Native.Nat.{◌<◌}
 use native.Mathlib.Omega.{arith}
 use lib.ListN.{length-set}
-use Rattle.search.specs.Workspace.{room_left}
+use Rattle.search.proofs.Workspace.{room_left}
 use Rattle.search.proofs.meet.meet.Goals as goal
 
 pub returns-then-work-x-ne0 : goal.returns-then-work-x-ne0

@@ -1,13 +1,13 @@
--- Each fact that the check leaves is answered by what is known at its place (proofs/Places.antt) and the laws of specs/Follow.antt.
+-- Each fact that the check leaves is answered by what is known at its place (proofs/Places.antt) and the laws of proofs/Follow.antt.
 use Rattle.std.specs.Prelude.{true, false}
 use Rattle.std.proofs.Common.{◌∙◌, arith}
 use Rattle.std.proofs.Math.Numerals.{add-one}
 use Rattle.recorder.specs.Flag.{live_flag}
 use Rattle.table.proofs.Inside.{row_inside, target_inside, mark_inside}
 use Rattle.table.proofs.Recording.{slots_few}
-use Rattle.search.specs.Meet.{rest_same, rest_trans}
-use Rattle.search.specs.Follow.{turned_begins, turned_ends}
-use Rattle.search.specs.Scanning.{Left, ended, stopped, left_ended, left_stopped}
+use Rattle.search.proofs.MeetLaws.{rest_same, rest_trans}
+use Rattle.search.proofs.Follow.{turned_begins, turned_ends}
+use Rattle.search.proofs.Scanning.{Left, ended, stopped, left_ended, left_stopped}
 use Rattle.search.proofs.Places.{head_in, x_slot, x_in, s_in, from_is, to_is, i_in, in_row, step_fits, first_fits, y_is, y_in, stops, other_fits, done}
 use Rattle.search.proofs.scan.scan.Goals as goal
 use Rattle.search.proofs.scan.scan.Goals.{else-queue-test, then-queue-test+then-loop-i-test+then-is_bad}

@@ -1,7 +1,7 @@
 -- What the loop keeps.
 use Prim.Native.Nat.{◌-◌}
 use Rattle.recorder.specs.Flag.{live_flag}
-use Rattle.search.specs.Scanning.{Waiting, Within}
+use Rattle.search.proofs.Scanning.{Waiting, Within}
 use Rattle.search.proofs.scan.scan.Given as goal
 
 abbrev pub invariant-loop-i : goal.invariant-loop-i

@@ -1,4 +1,4 @@
--- At state s the starts below s are queued (`Starting`), and the laws of specs/Starts.antt say what
+-- At state s the starts below s are queued (`Starting`), and the laws of proofs/StartsLaws.antt say what
 -- meeting the slot of state s asks and gives.
 use mathlib.Core.Path.{◌≡◌, sym, ◌∙◌}
 use Prim.Native.Nat.{◌<◌, zero-le}
@@ -9,8 +9,8 @@ use Rattle.table.specs.Layout.{states_of}
 use Rattle.table.specs.BlockOf.{block_of}
 use Rattle.table.proofs.Inside.{mark_inside}
 use Rattle.table.proofs.Recording.{start_slot, block_states, made_range, made_slot}
-use Rattle.search.specs.Meet.{rest_same, rest_trans, meets_if, asks_as, if_says_as}
-use Rattle.search.specs.Starts.{StartsAsk, starting_begins, start_asks, starting_on, starting_ends}
+use Rattle.search.proofs.MeetLaws.{rest_same, rest_trans, meets_if, asks_as, if_says_as}
+use Rattle.search.proofs.StartsLaws.{starting_begins, start_asks, starting_on, starting_ends}
 use Rattle.search.proofs.starts.queue_starts.Goals as goal
 
 pub loop-s-init : goal.loop-s-init

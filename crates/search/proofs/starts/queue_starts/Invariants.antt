@@ -5,7 +5,7 @@ use Rattle.recorder.specs.Flag.{live_flag}
 use Rattle.table.specs.Layout.{states_of}
 use Rattle.table.specs.Recording.{slots_of}
 use Rattle.search.specs.Meet.{SameRest}
-use Rattle.search.specs.Starts.{Starting}
+use Rattle.search.proofs.StartsLaws.{Starting}
 use Rattle.search.proofs.starts.queue_starts.Given as goal
 
 pub record Queueing (b w₀ w : List ℕ) (tail s : ℕ) : Type 0 where

@@ -1,5 +1,5 @@
 -- The seven numbers stand one after the other.
-use Rattle.writing.specs.Header.{header_written}
+use Rattle.writing.proofs.Header.{header_written}
 use Rattle.translation.proofs.header.write_header.Goals as goal
 
 pub returns : goal.returns

@@ -13,12 +13,14 @@ use Rattle.table.specs.Layout.{states_of, target}
 use Rattle.table.specs.BlockOf.{block_of}
 use Rattle.table.specs.WellFormed.{WellFormed}
 use Rattle.table.proofs.Sound.{sound}
-use Rattle.search.specs.Workspace.{slot_at, queue_of, Kept, kept_le}
-use Rattle.search.specs.Meet.{MeetAsks, MeetSays, MeetIfSays, Met, meets, meets_if, met_trans, meet_turns}
+use Rattle.search.specs.Workspace.{slot_at, queue_of, Kept}
+use Rattle.search.proofs.Workspace.{kept_le}
+use Rattle.search.specs.Meet.{MeetAsks, MeetSays, MeetIfSays}
+use Rattle.search.proofs.MeetLaws.{Met, meets, meets_if, met_trans, meet_turns}
 use Rattle.table.proofs.Row.{row_some, row_edge}
 use Rattle.table.specs.Recording.{slots_of, graph_of, next_of, state_of, from_of, to_of}
 use Rattle.table.proofs.Recording.{block_states, Unsaved, slots_few, state_in, next_in}
-use Rattle.search.specs.Floor.{floor_at, Upto, row_begins, row_next, row_other, row_done, row_done_saved, row_ends}
+use Rattle.search.proofs.Floor.{floor_at, Upto, row_begins, row_next, row_other, row_done, row_done_saved, row_ends}
 use Rattle.search.specs.Scan.{Stopped}
 
 -- In the turn of head, whose slot is x, at index i of the row of x's state.

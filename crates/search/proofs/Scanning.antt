@@ -10,7 +10,7 @@ use Rattle.table.specs.Recording.{slots_of, graph_of}
 use Rattle.search.specs.Workspace.{queue_of, Kept}
 use Rattle.search.specs.Meet.{SameRest}
 use Rattle.search.specs.Scan.{Stopped}
-use Rattle.search.specs.Follow.{Turned}
+use Rattle.search.proofs.Follow.{Turned}
 
 -- Between two turns. w₀ is the workspace as it came.
 pub record Waiting (F : Flag) (b w₀ w : List ℕ) (bad head tail : ℕ) : Type 0 where

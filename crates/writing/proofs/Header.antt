@@ -3,7 +3,8 @@ use Rattle.std.specs.Prelude.{◌≡◌, List, [], ◌∷◌, ℕ, length}
 use Rattle.std.proofs.Common.{◌∙◌, arith}
 use Rattle.table.specs.Layout.{little_endian, rows_at, targets_at, marks_at}
 use Rattle.writing.specs.File.{header_of}
-use Rattle.writing.specs.Placed.{placed, little_next, little_all}
+use Rattle.writing.specs.Placed.{placed}
+use Rattle.writing.proofs.Placed.{little_next, little_all}
 
 -- the numbers of a header, put one after the other into a buffer of 28 bytes
 pub header_written : (kind n e m : ℕ) (w : List ℕ) {w₁ w₂ w₃ w₄ w₅ w₆ w₇ : List ℕ} → length w ≡ rows_at

@@ -4,7 +4,7 @@ use Rattle.std.specs.Prelude.{◌≡◌, List, ◌++◌, ℕ, ◌+◌, ◌*◌, 
 use Rattle.std.proofs.Common.{ap, ◌∙◌, arith, get_or-append-add}
 use Rattle.std.proofs.Math.ListN.{get_or-append}
 use Rattle.table.specs.Layout.{byte_at, word_at, little_endian}
-use Rattle.writing.specs.Little.{length_little, word_little, word_after}
+use Rattle.writing.proofs.Little.{length_little, word_little, word_after}
 
 -- the header's numbers, the row starts, the targets, the marks, and what follows
 abbrev pub sections : List ℕ → List ℕ → List ℕ → List ℕ → List ℕ → List ℕ
