@@ -1,7 +1,7 @@
 -- Laws of specs/InOrder.antt. Assumes nothing.
-use Rattle.std.specs.Prelude.{◌≡◌, refl, Bool, true, false, not, List, [], ◌∷◌, ◌++◌, ℕ, ◌+◌, ◌≤◌, ◌<◌, eqb, ltb, length}
+use Rattle.std.specs.Prelude.{◌≡◌, refl, Bool, true, false, not, List, [], ◌∷◌, ◌++◌, ℕ, ◌+◌, ◌≤◌, ◌<◌, eqb, ltb, length, Option, None, Some}
 use Rattle.std.proofs.Common.{sym, inl, inr, arith}
-use Rattle.std.proofs.Math.Option.{Option, none, some, some-ne-none}
+use Rattle.std.proofs.lemmas.Option.{none-some}
 use Rattle.table.specs.First.{first_in}
 use Rattle.table.specs.Given.{given, given_at, first_given}
 use Rattle.table.specs.Layout.{kind_of, states_of, edges_of, sets_of}
@@ -33,19 +33,19 @@ in_the_list NoEdge = omega arith
 -- lines that are given stand where they must
 pub past : (p : ℕ) (ls : List (Option Refusal)) → InOrderFrom p ls → (r : Refusal) → GivenIn r ls → p ≤ position_of r
 past p [] end r g = absurd g
-past p (none ∷ ls) (off k) r (inl q) = absurd (some-ne-none r (sym q))
-past p (none ∷ ls) (off k) r (inr g) = past p ls k r g
-past p (some x ∷ ls) (on h k) r (inl q) = let d : x ≡ r = cc in rw (← d) h
-past p (some x ∷ ls) (on h k) r (inr g) = let m : position_after x ≤ position_of r = past (position_after x) ls k r g in omega arith
+past p (None ∷ ls) (off k) r (inl q) = absurd (none-some r q)
+past p (None ∷ ls) (off k) r (inr g) = past p ls k r g
+past p (Some x ∷ ls) (on h k) r (inl q) = let d : x ≡ r = cc in rw (← d) h
+past p (Some x ∷ ls) (on h k) r (inr g) = let m : position_after x ≤ position_of r = past (position_after x) ls k r g in omega arith
 
 -- of the lines that are given, the first is the first in the list's order
-first_in_list : (p : ℕ) (ls : List (Option Refusal)) → InOrderFrom p ls → (r r' : Refusal) → first_given ls ≡ some r → GivenIn r' ls
+first_in_list : (p : ℕ) (ls : List (Option Refusal)) → InOrderFrom p ls → (r r' : Refusal) → first_given ls ≡ Some r → GivenIn r' ls
     → position_of r ≤ position_of r'
 first_in_list p [] end r r' e g = absurd g
-first_in_list p (none ∷ ls) (off k) r r' e (inl q) = absurd (some-ne-none r' (sym q))
-first_in_list p (none ∷ ls) (off k) r r' e (inr g) = first_in_list p ls k r r' e g
-first_in_list p (some x ∷ ls) (on h k) r r' e (inl q) = let d : r ≡ r' = cc in rw d (omega arith)
-first_in_list p (some x ∷ ls) (on h k) r r' e (inr g) =
+first_in_list p (None ∷ ls) (off k) r r' e (inl q) = absurd (none-some r' q)
+first_in_list p (None ∷ ls) (off k) r r' e (inr g) = first_in_list p ls k r r' e g
+first_in_list p (Some x ∷ ls) (on h k) r r' e (inl q) = let d : r ≡ r' = cc in rw d (omega arith)
+first_in_list p (Some x ∷ ls) (on h k) r r' e (inr g) =
     let d : x ≡ r = cc in
     let m : position_after x ≤ position_of r' = past (position_after x) ls k r' g in
     rw (← d) (omega arith)
@@ -53,8 +53,8 @@ first_in_list p (some x ∷ ls) (on h k) r r' e (inr g) =
 -- lines that stand from a later position on stand from an earlier one on
 from_earlier : (p q : ℕ) (ls : List (Option Refusal)) → p ≤ q → InOrderFrom q ls → InOrderFrom p ls
 from_earlier p q [] h end = end
-from_earlier p q (none ∷ ls) h (off k) = off (from_earlier p q ls h k)
-from_earlier p q (some r ∷ ls) h (on a k) = let c : p ≤ position_of r = omega arith in on c k
+from_earlier p q (None ∷ ls) h (off k) = off (from_earlier p q ls h k)
+from_earlier p q (Some r ∷ ls) h (on a k) = let c : p ≤ position_of r = omega arith in on c k
 
 -- a line before lines that stand after it; without a place, and with one
 pub line : (p : ℕ) (t : Bool) (r : Refusal) (ls : List (Option Refusal)) → p ≤ position_of r → InOrderFrom (position_after r) ls → InOrderFrom p (given t r ∷ ls)
@@ -63,8 +63,8 @@ line p false r ls h k = off (from_earlier p (position_after r) ls (omega arith) 
 
 pub line_at : (p : ℕ) (o : Option ℕ) (r : ℕ → Refusal) (ls : List (Option Refusal)) → ((i : ℕ) → position_of (r i) ≡ position_of (r 0)) → p ≤ position_of (r 0)
     → InOrderFrom (position_after (r 0)) ls → InOrderFrom p (given_at o r ∷ ls)
-line_at p none r ls e h k = off (from_earlier p (position_after (r 0)) ls (omega arith) k)
-line_at p (some i) r ls e h k = let c : p ≤ position_of (r i) = rw (e i) h in let d : InOrderFrom (position_after (r i)) ls = rw (e i) k in on c d
+line_at p None r ls e h k = off (from_earlier p (position_after (r 0)) ls (omega arith) k)
+line_at p (Some i) r ls e h k = let c : p ≤ position_of (r i) = rw (e i) h in let d : InOrderFrom (position_after (r i)) ls = rw (e i) k in on c d
 
 -- ---- the table's lines, and after them a job's own
 
@@ -113,14 +113,14 @@ down_the_list b ls = go (lines_of b)
   where
     go : (rs : List (Option Refusal)) → refusal_for (answer_of b (first_given rs)) ls ≡ first_given (rs ++ ls)
     go [] = refl
-    go (none ∷ rs) = go rs
-    go (some r ∷ rs) = refl
+    go (None ∷ rs) = go rs
+    go (Some r ∷ rs) = refl
 
 pub by_the_list : (b : List ℕ) (ls : List (Option Refusal)) → InOrderFrom (position_after (WrongMark 0)) ls → ByTheList b ls (refusal_for (open_of b) ls)
 by_the_list b ls k = record { in_order = lines_in_order b ls k; is_first = down_the_list b ls }
 
 -- no line that is given stands before the refusal in the list
-pub none_before : (b : List ℕ) (ls : List (Option Refusal)) (r : Refusal) → ByTheList b ls (some r) → (r' : Refusal) → GivenIn r' (lines_of b ++ ls)
+pub none_before : (b : List ℕ) (ls : List (Option Refusal)) (r : Refusal) → ByTheList b ls (Some r) → (r' : Refusal) → GivenIn r' (lines_of b ++ ls)
     → position_of r ≤ position_of r'
 none_before b ls r h r' = first_in_list 0 (lines_of b ++ ls) h.in_order r r' (sym h.is_first)
 

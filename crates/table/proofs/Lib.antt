@@ -6,7 +6,6 @@ pub mod InOrder
 pub mod Bits
 pub mod Facts
 pub mod LaidOut
-pub mod Answers
 pub mod Inside
 pub mod Rows
 pub mod Targets

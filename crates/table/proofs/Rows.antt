@@ -1,7 +1,6 @@
 -- Laws of specs/Rows.antt. Assumes nothing.
-use Rattle.std.specs.Prelude.{◌≡◌, refl, true, false, ◌↔◌, ◌⊎◌, List, ℕ, zero, suc, ◌+◌, ◌-◌, ◌≤◌, ◌<◌}
+use Rattle.std.specs.Prelude.{◌≡◌, refl, true, false, ◌↔◌, ◌⊎◌, List, ℕ, zero, suc, ◌+◌, ◌-◌, ◌≤◌, ◌<◌, None}
 use Rattle.std.proofs.Common.{ap, ◌∙◌, inl, inr, zero-le, eq-or-lt_of_le, le_of_eq, arith}
-use Rattle.std.proofs.Math.Option.{none}
 use Rattle.std.proofs.Math.Decide.{dec_lt}
 use Rattle.table.specs.First.{first_in}
 use Rattle.table.proofs.First.{first_none, none_in}
@@ -61,7 +60,7 @@ pub start_wrong : (b : List ℕ) (i : ℕ) → ¬ StartRight b i → row_start_w
 start_wrong b i h = passes_if_not_fails (row_start_wrong b i) (λ e. h ((start_says b i).0 e))
 
 -- line 5 is given nowhere exactly where the first row start is 0, they never fall, and the last is e
-pub row_starts_right : (b : List ℕ) → (first_in 0 (states_of b + 1) (row_start_wrong b) ≡ none) ↔ RowsRight b
+pub row_starts_right : (b : List ℕ) → (first_in 0 (states_of b + 1) (row_start_wrong b) ≡ None) ↔ RowsRight b
 row_starts_right b = simp (first_none, start_says) (to, λ h i z l. from h i (omega arith))
   where
     to : ((i : ℕ) → 0 ≤ i → i < states_of b + 1 → StartRight b i) → RowsRight b

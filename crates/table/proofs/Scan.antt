@@ -1,9 +1,8 @@
 -- A scan that stops at the first index at which a test passes: what it knows at index i, and what it finds. One law for each way a scan goes on
 -- or ends. Assumes nothing.
-use Rattle.std.specs.Prelude.{◌≡◌, Bool, true, false, ℕ, ◌+◌, ◌≤◌, ◌<◌}
-use Rattle.std.proofs.Math.Option.{none, some}
+use Rattle.std.specs.Prelude.{◌≡◌, Bool, true, false, ℕ, ◌+◌, ◌≤◌, ◌<◌, None, Some}
 use Rattle.std.proofs.Math.Decide.{dec_lt}
-use Rattle.std.proofs.Common.{arith}
+use Rattle.std.proofs.Common.{sym, arith}
 use Rattle.table.specs.First.{first_in}
 use Rattle.table.proofs.First.{first_some, first_none}
 
@@ -29,10 +28,20 @@ module _ {lo hi : ℕ} {P : ℕ → Bool} where
   pub scan_goes_on : {i : ℕ} → Scanned lo hi P i → i < hi → P i ≡ false → Scanned lo hi P (i + 1)
   scan_goes_on {i} s h e = scan_on (i + 1) s (omega arith) (omega arith) (λ j p q. let d : j ≡ i = omega arith in rw d e)
 
-  -- the test passes at i
-  pub scan_first : {i : ℕ} → Scanned lo hi P i → i < hi → P i ≡ true → first_in lo hi P ≡ some i
-  scan_first {i} s h e = (first_some lo hi P i).1 (record { from = s.from; below = h; passes = e; before = s.none })
+  -- the test passes at i: it is the first such index
+  pub scan_finds : {i : ℕ} → Scanned lo hi P i → i < hi → P i ≡ true → Some i ≡ first_in lo hi P
+  scan_finds {i} s h e = sym ((first_some lo hi P i).1 (record { from = s.from; below = h; passes = e; before = s.none }))
 
   -- the indices are at an end
-  pub scan_none : {i : ℕ} → Scanned lo hi P i → hi ≤ i → first_in lo hi P ≡ none
-  scan_none {i} s h = (first_none lo hi P).1 (λ j p q. s.none j p (omega (arith, h)))
+  pub scan_ends : {i : ℕ} → Scanned lo hi P i → hi ≤ i → None ≡ first_in lo hi P
+  scan_ends {i} s h = sym ((first_none lo hi P).1 (λ j p q. s.none j p (omega (arith, h))))
+
+  -- a scan of the part from i to k answers: it found one, or there is none in that part
+  pub part_finds : {i k x : ℕ} → Scanned lo hi P i → k ≤ hi → Some x ≡ first_in i k P → Some x ≡ first_in lo hi P
+  part_finds {i} {k} {x} s h e =
+      let f = (first_some i k P x).0 (sym e) in
+      let t = scan_on x s f.from (omega (arith, f.below)) f.before in
+      scan_finds t (omega (arith, f.below)) f.passes
+
+  pub part_ends : {i k : ℕ} → Scanned lo hi P i → i ≤ k → k ≤ hi → None ≡ first_in i k P → Scanned lo hi P k
+  part_ends {i} {k} s l h e = scan_on k s l h ((first_none i k P).0 (sym e))

@@ -1,7 +1,6 @@
 -- Laws of the targets: which of them open a row, and what line 6 of the refusal list says where it is not given. Assumes nothing.
-use Rattle.std.specs.Prelude.{◌≡◌, refl, true, false, ◌↔◌, List, ℕ, suc, ◌-◌, ◌≤◌, ◌<◌, eqb}
+use Rattle.std.specs.Prelude.{◌≡◌, refl, true, false, ◌↔◌, List, ℕ, suc, ◌-◌, ◌≤◌, ◌<◌, eqb, None}
 use Rattle.std.proofs.Common.{sym, ◌∙◌, zero-le, arith, eq-eqb, ne_eqb}
-use Rattle.std.proofs.Math.Option.{none}
 use Rattle.std.proofs.Math.Decide.{dec_lt}
 use Rattle.table.specs.First.{first_in}
 use Rattle.table.proofs.First.{first_none, some_in}
@@ -54,7 +53,7 @@ module _ (b : List ℕ) (r : RowsRight b) where
 
   -- ---- line 6 is given nowhere exactly where each target is below n and they rise strictly within a row
 
-  pub targets_right : (first_in 0 (edges_of b) (target_wrong b) ≡ none)
+  pub targets_right : (first_in 0 (edges_of b) (target_wrong b) ≡ None)
       ↔ (((i : ℕ) → i < edges_of b → target b i < states_of b)
       × ((s i : ℕ) → s < states_of b → row_start b s ≤ i → suc i < row_start b (suc s) → target b i < target b (suc i)))
   targets_right = simp (first_none, target_says) (λ h. (λ i l. (h i zero-le l).below, to h), λ h i z l. record { below = h.0 i l; rises = from h.1 i l (row_of b r i l) })

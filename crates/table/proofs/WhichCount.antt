@@ -1,10 +1,10 @@
 -- Laws of specs/WhichCount.antt. Assumes nothing.
-use Rattle.std.specs.Prelude.{◌≡◌, Bool, true, false, not, ◌↔◌, ℕ, ◌≤◌, ◌<◌, eqb, leb, ltb, length}
+use Rattle.std.specs.Prelude.{◌≡◌, Bool, true, false, not, ◌↔◌, ℕ, ◌≤◌, ◌<◌, eqb, leb, ltb, length, Option, None, Some, Err}
 use Rattle.std.proofs.Math.Path.{refl, sym, ap}
-use Rattle.std.proofs.Common.{◌∙◌, true≢false, inl, inr, zero-le, arith}
+use Rattle.std.proofs.Common.{sym, ◌∙◌, true≢false, inl, inr, zero-le, arith}
 use Rattle.std.proofs.lemmas.Bool.{false≢true}
 use mathlib.Core.List.{List, [], ◌∷◌}
-use Rattle.std.proofs.Math.Option.{Option, none, some, some-ne-none}
+use Rattle.std.proofs.lemmas.Option.{none-some}
 use Rattle.table.specs.Given.{given, first_given}
 use Rattle.table.specs.Layout.{kind_of, states_of, edges_of, sets_of}
 use Rattle.table.specs.Refusals.{number_of, place_of}
@@ -17,7 +17,6 @@ use Rattle.table.proofs.InOrder.{past, after_sets, after_edges, after_states, af
 use Rattle.table.proofs.Stages.{stage_refuses, refuses_says}
 use Rattle.table.specs.declared.refusal.Refusal.{Refusal}
 use Rattle.table.specs.declared.refusal.Refusal.TheVariants.{TooShort, WrongKind, WrongStates, WrongEdges, WrongSets, WrongLayout, WrongRowStart, WrongTarget, EmptyRow, WrongMark, ShortWorkspace, ShortReport, ShortOutput, WrongRecord, NoEdge}
-use Rattle.table.specs.declared.Opened.TheVariants.{Refused}
 use Rattle.table.specs.WhichCount.{ClientHeader, Gives}
 
 -- ---- a number and a place tell the refusal
@@ -61,19 +60,19 @@ told_apart r r' n p = sym (told r) ∙ (λ i. refusal_of (n i) (p i)) ∙ told r
 -- ---- laws of a line before others
 
 -- the first line that is given is one that is given
-first_is_given : (ls : List (Option Refusal)) (r : Refusal) → first_given ls ≡ some r → GivenIn r ls
-first_is_given [] r e = absurd (some-ne-none r (sym e))
-first_is_given (none ∷ ls) r e = inr (first_is_given ls r e)
-first_is_given (some x ∷ ls) r e = inl e
+first_is_given : (ls : List (Option Refusal)) (r : Refusal) → first_given ls ≡ Some r → GivenIn r ls
+first_is_given [] r e = absurd (none-some r e)
+first_is_given (None ∷ ls) r e = inr (first_is_given ls r e)
+first_is_given (Some x ∷ ls) r e = inl e
 
 -- a line before that of r: r is the first exactly where it is not given and r is the first of the rest
 pass : (t : Bool) (x r : Refusal) (ls : List (Option Refusal)) → position_of x < position_of r
-    → (first_given (given t x ∷ ls) ≡ some r) ↔ ((t ≡ false) × (first_given ls ≡ some r))
+    → (first_given (given t x ∷ ls) ≡ Some r) ↔ ((t ≡ false) × (first_given ls ≡ Some r))
 pass true x r ls h = (λ e. absurd (let d : x ≡ r = cc in omega (arith, h, ap position_of d)), λ (f, e). absurd (true≢false f))
 pass false x r ls h = (λ e. (refl, e), λ (f, e). e)
 
 -- the line of r itself, before lines that stand after it
-stop : (t : Bool) (r : Refusal) (ls : List (Option Refusal)) → InOrderFrom (position_after r) ls → (first_given (given t r ∷ ls) ≡ some r) ↔ (t ≡ true)
+stop : (t : Bool) (r : Refusal) (ls : List (Option Refusal)) → InOrderFrom (position_after r) ls → (first_given (given t r ∷ ls) ≡ Some r) ↔ (t ≡ true)
 stop true r ls k = (λ e. refl, λ e. refl)
 stop false r ls k = (
   λ e. absurd (let h : position_after r ≤ position_of r = past (position_after r) ls k r (first_is_given ls r e) in omega arith),
@@ -82,7 +81,7 @@ stop false r ls k = (
 
 -- the line of a count, where it is passed and where it is given
 count_passed : (x low high : ℕ) (c r : Refusal) (ls : List (Option Refusal)) → position_of c < position_of r
-    → (first_given (given (outside x low high) c ∷ ls) ≡ some r) ↔ (FromTo x low high × (first_given ls ≡ some r))
+    → (first_given (given (outside x low high) c ∷ ls) ≡ Some r) ↔ (FromTo x low high × (first_given ls ≡ Some r))
 count_passed x low high c r ls h =
     let p = pass (outside x low high) c r ls h in
     let i = inside x low high in (
@@ -91,7 +90,7 @@ count_passed x low high c r ls h =
     )
 
 count_given : (x low high : ℕ) (r : Refusal) (ls : List (Option Refusal)) → InOrderFrom (position_after r) ls
-    → (first_given (given (outside x low high) r ∷ ls) ≡ some r) ↔ (¬ FromTo x low high)
+    → (first_given (given (outside x low high) r ∷ ls) ≡ Some r) ↔ (¬ FromTo x low high)
 count_given x low high r ls k =
     let s = stop (outside x low high) r ls k in
     let i = inside x low high in (
@@ -101,7 +100,7 @@ count_given x low high r ls k =
 
 -- lines 1 and 2, before that of r
 header_passed : (b : List ℕ) (r : Refusal) (ls : List (Option Refusal)) → position_of WrongKind < position_of r
-    → (first_given (given (ltb (length b) 28) TooShort ∷ given (not (eqb (kind_of b) 1)) WrongKind ∷ ls) ≡ some r) ↔ (ClientHeader b × (first_given ls ≡ some r))
+    → (first_given (given (ltb (length b) 28) TooShort ∷ given (not (eqb (kind_of b) 1)) WrongKind ∷ ls) ≡ Some r) ↔ (ClientHeader b × (first_given ls ≡ Some r))
 header_passed b r ls h =
     let p = pass (ltb (length b) 28) TooShort r (given (not (eqb (kind_of b) 1)) WrongKind ∷ ls) (omega arith) in
     let q = pass (not (eqb (kind_of b) 1)) WrongKind r ls h in (
@@ -113,12 +112,12 @@ header_passed b r ls h =
 module _ (b : List ℕ) where
   -- opening gives the number of r, a refusal that has no place, exactly where r is the first of the table's lines that is given; its place is then 0
   first_line : (r : Refusal) → place_of r ≡ 0 → ((i : ℕ) → refusal_of (number_of r) i ≡ r) → (i : ℕ)
-      → Gives b (number_of r) i ↔ ((i ≡ 0) × (first_given (lines_of b) ≡ some r))
+      → Gives b (number_of r) i ↔ ((i ≡ 0) × (first_given (lines_of b) ≡ Some r))
   unfolding open_of
   first_line r z only i = (
     λ (r', (e, (n, p))).
         let d : r' ≡ r = sym (told r') ∙ (λ j. refusal_of (n j) (place_of r')) ∙ only (place_of r') in
-        (sym p ∙ ap place_of d ∙ z, refuses_says b (lines_of b) r (e ∙ ap Refused d)),
+        (sym p ∙ ap place_of d ∙ z, refuses_says b (lines_of b) r (e ∙ ap Err d)),
     λ (q, e). (r, (sym (stage_refuses b (lines_of b) r e), (refl, z ∙ sym q))),
   )
 

@@ -1,8 +1,7 @@
 -- The block that an accepted table is. docs/RULES.md, "The table file": rows, targets and marks. Definitions only. Assumes nothing.
-use Rattle.std.specs.Prelude.{◌&&◌, List, ℕ, suc, ◌/◌, ◌%◌, eqb, ltb}
-use Rattle.std.proofs.Math.Option.{Option}
+use Rattle.std.specs.Prelude.{is_some, ◌&&◌, List, ℕ, suc, ◌/◌, ◌%◌, eqb, ltb, Option}
 use Rattle.recorder.specs.Block.{Block}
-use Rattle.table.specs.First.{first_in, is_some}
+use Rattle.table.specs.First.{first_in}
 use Rattle.table.specs.Layout.{states_of, sets_of, row_start, target, mark}
 
 -- the place in the targets of the edge from s to s': the first target s' in the row of s

@@ -1,8 +1,7 @@
 -- The refusal list's order, and that every job goes down it. docs/RULES.md, "Refusal list": of the lines that apply, the first in the list is given.
 -- The order is that of positions in the list, not of numbers: 14 and 15 stand straight after 3. proofs/InOrder.antt has the laws, over any list of
 -- lines. Assumes nothing.
-use Rattle.std.specs.Prelude.{◌≡◌, true, false, ◌⊎◌, List, [], ◌∷◌, ◌++◌, ℕ, suc, ◌≤◌, eqb}
-use Rattle.std.proofs.Math.Option.{Option, none, some}
+use Rattle.std.specs.Prelude.{◌≡◌, true, false, ◌⊎◌, List, [], ◌∷◌, ◌++◌, ℕ, suc, ◌≤◌, eqb, Option, None, Some}
 use Rattle.table.specs.Given.{first_given}
 use Rattle.table.specs.Refusals.{number_of}
 use Rattle.table.specs.Open.{lines_of}
@@ -30,13 +29,13 @@ position_after r = suc (position_of r)
 -- the lines that are given stand in the list's order, all at position p or after it
 pub data InOrderFrom : ℕ → List (Option Refusal) → Type 0 where
   end : {p : ℕ} → InOrderFrom p []
-  off : {p : ℕ} {ls : List (Option Refusal)} → InOrderFrom p ls → InOrderFrom p (none ∷ ls)
-  on : {p : ℕ} {r : Refusal} {ls : List (Option Refusal)} → p ≤ position_of r → InOrderFrom (position_after r) ls → InOrderFrom p (some r ∷ ls)
+  off : {p : ℕ} {ls : List (Option Refusal)} → InOrderFrom p ls → InOrderFrom p (None ∷ ls)
+  on : {p : ℕ} {r : Refusal} {ls : List (Option Refusal)} → p ≤ position_of r → InOrderFrom (position_after r) ls → InOrderFrom p (Some r ∷ ls)
 
 -- r is given by one of the lines
 abbrev pub GivenIn : Refusal → List (Option Refusal) → Type 0
 GivenIn r [] = ⊥
-GivenIn r (o ∷ ls) = (o ≡ some r) ⊎ GivenIn r ls
+GivenIn r (o ∷ ls) = (o ≡ Some r) ⊎ GivenIn r ls
 
 -- the lines that are given stand in the list's order; said of every input, so two lines that can both be given can't be exchanged
 abbrev pub InOrder : List (Option Refusal) → Type 0

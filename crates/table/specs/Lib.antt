@@ -7,7 +7,6 @@ pub mod Open
 pub mod InOrder
 pub mod BlockOf
 pub mod LaidOut
-pub mod Answers
 pub mod Inside
 pub mod Rows
 pub mod WhichCount

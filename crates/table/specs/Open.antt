@@ -1,14 +1,12 @@
 -- Which tables are accepted, and which refusal every other gets. docs/RULES.md, "The table file" and the table's own lines of "Refusal
 -- list". A line is named by its number. Definitions only. Assumes nothing.
-use Rattle.std.specs.Prelude.{Bool, not, ◌&&◌, ◌||◌, List, [], ◌∷◌, ◌++◌, ℕ, suc, ◌+◌, ◌-◌, ◌^◌, eqb, leb, ltb, length}
-use Rattle.std.proofs.Math.Option.{Option, none, some}
-use Rattle.table.specs.First.{first_in, is_some}
+use Rattle.std.specs.Prelude.{is_some, Bool, not, ◌&&◌, ◌||◌, List, [], ◌∷◌, ◌++◌, ℕ, suc, ◌+◌, ◌-◌, ◌^◌, eqb, leb, ltb, length, Option, None, Some, Result, Ok, Err}
+use Rattle.table.specs.First.{first_in}
 use Rattle.table.specs.Given.{given, given_at, first_given}
 use Rattle.table.specs.Layout.{kind_of, states_of, edges_of, sets_of, rows_offset, targets_offset, marks_offset, rows_at, targets_at, marks_at, length_of, table_of, row_start, target, mark}
 use Rattle.table.specs.declared.refusal.Refusal.{Refusal}
 use Rattle.table.specs.declared.refusal.Refusal.TheVariants.{TooShort, WrongKind, WrongStates, WrongEdges, WrongSets, WrongLayout, WrongRowStart, WrongTarget, EmptyRow, WrongMark}
-use Rattle.table.specs.declared.Opened.{Opened}
-use Rattle.table.specs.declared.Opened.TheVariants.{Accepted, Refused}
+use Rattle.table.specs.declared.Table.{Table}
 
 -- ---- the tests
 
@@ -80,24 +78,24 @@ unfoldable pub lines_of : List ℕ → List (Option Refusal)
 lines_of b = (count_lines b ++ row_lines b) ++ content_lines b
 
 -- what a job over the bytes refuses: a table that is not accepted gets its refusal, any other the first of the job's own lines that is given, if any
-abbrev pub refusal_for : Opened → List (Option Refusal) → Option Refusal
-refusal_for (Refused why) lines = some why
-refusal_for (Accepted t) lines = first_given lines
+abbrev pub refusal_for : Result Table Refusal → List (Option Refusal) → Option Refusal
+refusal_for (Err why) lines = Some why
+refusal_for (Ok t) lines = first_given lines
 
 -- the answer of opening: the refusal, or where there is none the table
-abbrev pub answer_of : List ℕ → Option Refusal → Opened
-answer_of b none = Accepted (table_of b)
-answer_of b (some r) = Refused r
+abbrev pub answer_of : List ℕ → Option Refusal → Result Table Refusal
+answer_of b None = Ok (table_of b)
+answer_of b (Some r) = Err r
 
 -- what the bytes are answered by these lines
-unfoldable pub opened_by : List ℕ → List (Option Refusal) → Opened
+unfoldable pub opened_by : List ℕ → List (Option Refusal) → Result Table Refusal
 opened_by b lines = answer_of b (first_given lines)
 
 -- what opening the bytes answers
-unfoldable pub open_of : List ℕ → Opened
+unfoldable pub open_of : List ℕ → Result Table Refusal
 open_of b = opened_by b (lines_of b)
 
 -- the refusal of an answer that is one; TooShort of an accepted table, which no `let .. else` hands on
-abbrev pub why_of : Opened → Refusal
-why_of (Refused r) = r
-why_of (Accepted t) = TooShort
+abbrev pub why_of : Result Table Refusal → Refusal
+why_of (Err r) = r
+why_of (Ok t) = TooShort

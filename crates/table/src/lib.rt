@@ -5,7 +5,7 @@
 mod read;
 mod refusal;
 
-pub use read::{fair, has_edge, has_goal, is_start, mark, row_start, target, wide, word};
+pub use read::{fair, has_edge, has_goal, is_start, mark, row_start, target, word};
 pub use refusal::Refusal;
 
 // What an accepted table counts: n states, e edges, m fairness sets.
@@ -14,18 +14,4 @@ pub struct Table {
     pub states: usize,
     pub edges: usize,
     pub sets: usize,
-}
-
-// What opening a table answers.
-#[derive(Clone, Copy)]
-pub enum Opened {
-    Accepted(Table),
-    Refused(Refusal),
-}
-
-// The first such index, or none.
-#[derive(Clone, Copy)]
-pub enum Found {
-    At(usize),
-    Nothing,
 }

@@ -8,23 +8,16 @@ ghost use Rattle.table.specs.WellFormed.{WellFormed};
 
 use super::Table;
 
-// A byte as a number that indexes.
-pub fn wide(x: u8) -> usize
-    ensures { (result ≡ x) × (result < 256) }
-{
-    x as usize
-}
-
 // The little-endian 32-bit number at index `at`.
 #[tactic(auto, unfolding(crate::specs::Layout::word_at))]
 pub fn word(bytes: &[u8], at: usize) -> usize
     requires { at + 4 ≤ length bytes.now }
     ensures { result ≡ word_at bytes.now at }
 {
-    wide(bytes[at])
-        + 256 * wide(bytes[at + 1])
-        + 65536 * wide(bytes[at + 2])
-        + 16777216 * wide(bytes[at + 3])
+    usize::from(bytes[at])
+        + 256 * usize::from(bytes[at + 1])
+        + 65536 * usize::from(bytes[at + 2])
+        + 16777216 * usize::from(bytes[at + 3])
 }
 
 // Row start s.
@@ -51,8 +44,7 @@ pub fn mark(bytes: &[u8], t: Table, s: usize) -> u8
     requires { MarkInside bytes.now t s }
     ensures { result ≡ mark_of bytes.now s }
 {
-    let at = 28 + 4 * (t.states + 1) + 4 * t.edges + s;
-    bytes[at]
+    bytes[28 + 4 * (t.states + 1) + 4 * t.edges + s]
 }
 
 // The state s is a start: bit 0 of its marks.
@@ -79,7 +71,7 @@ pub fn fair(bytes: &[u8], t: Table, s: usize) -> usize
     requires { MarkInside bytes.now t s }
     ensures { result ≡ (block_of bytes.now).fair s }
 {
-    wide(mark(bytes, t, s) / 4)
+    usize::from(mark(bytes, t, s) / 4)
 }
 
 // s to s2 is an edge: s2 is a target in the row of s.
@@ -88,15 +80,11 @@ pub fn has_edge(bytes: &[u8], t: Table, s: usize, s2: usize) -> bool
     requires states_value { (t.states ≡ states_of bytes.now) × (s < t.states) }
     ensures { result ≡ (block_of bytes.now).edge s s2 }
 {
-    let from = row_start(bytes, s);
-    let to = row_start(bytes, s + 1);
-    let mut i = from;
-    while i < to {
-        let x = target(bytes, t, i);
-        if x == s2 {
-            return true;
-        }
-        i += 1;
-    }
-    false
+    (row_start(bytes, s)..row_start(bytes, s + 1))
+        .find(
+            |&i|
+                requires { TargetInside bytes.now t i }
+            { target(bytes, t, i) == s2 },
+        )
+        .is_some()
 }

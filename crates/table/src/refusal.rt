@@ -50,21 +50,9 @@ impl Refusal {
         ensures { result ≡ place_of self }
     {
         match self {
-            Refusal::TooShort => 0,
-            Refusal::WrongKind => 0,
-            Refusal::WrongStates => 0,
-            Refusal::WrongEdges => 0,
-            Refusal::WrongSets => 0,
-            Refusal::WrongLayout => 0,
-            Refusal::WrongRowStart(i) => i,
-            Refusal::WrongTarget(i) => i,
-            Refusal::EmptyRow(s) => s,
-            Refusal::WrongMark(s) => s,
-            Refusal::ShortWorkspace => 0,
-            Refusal::ShortReport => 0,
-            Refusal::ShortOutput => 0,
-            Refusal::WrongRecord => 0,
-            Refusal::NoEdge => 0,
+            Refusal::WrongRowStart(i) | Refusal::WrongTarget(i) => i,
+            Refusal::EmptyRow(s) | Refusal::WrongMark(s) => s,
+            _ => 0,
         }
     }
 }

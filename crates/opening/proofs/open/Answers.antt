@@ -1,7 +1,7 @@
 -- What the lines before refuse stays refused, and after them the code goes down lines 6 to 8.
+use Rattle.std.specs.Prelude.{None}
 use mathlib.Core.Path.{◌≡◌, sym, ◌∙◌}
 use mathlib.Core.List.{◌++◌}
-use mathlib.Core.Option.{none}
 use Rattle.table.specs.First.{first_in}
 use Rattle.table.proofs.Answers.{found_at, found_none}
 use Rattle.table.specs.Given.{first_given}
@@ -20,7 +20,7 @@ returns-in_default c = stays_refused _ _ _ _ _ c.laid_out-answer.ensures c.in_de
 
 pub wrong_target-requires : goal.wrong_target-requires
 wrong_target-requires c =
-    let taken : (first_given (count_lines c.args.bytes.now ++ row_lines c.args.bytes.now) ≡ none) × (c.in-Accepted.t ≡ table_of c.args.bytes.now) = accepts_says c.args.bytes.now _ c.in-Accepted.t (sym c.laid_out-answer.ensures ∙ c.in-Accepted.is) in
+    let taken : (first_given (count_lines c.args.bytes.now ++ row_lines c.args.bytes.now) ≡ None) × (c.in-Accepted.t ≡ table_of c.args.bytes.now) = accepts_says c.args.bytes.now _ c.in-Accepted.t (sym c.laid_out-answer.ensures ∙ c.in-Accepted.is) in
     let laid : LaidOut c.args.bytes.now c.in-Accepted.t × RowsRight c.args.bytes.now = let (counts, rows) = none_in_parts (count_lines c.args.bytes.now) (row_lines c.args.bytes.now) taken.0 in
     let (layout, right) = rows_leave c.args.bytes.now rows in
     (laid_out c.args.bytes.now (counted c.args.bytes.now counts) layout c.in-Accepted.t taken.1, right) in
@@ -32,13 +32,13 @@ wrong_target-requires c =
 pub returns-in-At : goal.returns-in-At
 unfolding open_of lines_of
 returns-in-At c =
-    let taken : (first_given (count_lines c.args.bytes.now ++ row_lines c.args.bytes.now) ≡ none) × (c.in-Accepted.t ≡ table_of c.args.bytes.now) = accepts_says c.args.bytes.now _ c.in-Accepted.t (sym c.laid_out-answer.ensures ∙ c.in-Accepted.is) in
+    let taken : (first_given (count_lines c.args.bytes.now ++ row_lines c.args.bytes.now) ≡ None) × (c.in-Accepted.t ≡ table_of c.args.bytes.now) = accepts_says c.args.bytes.now _ c.in-Accepted.t (sym c.laid_out-answer.ensures ∙ c.in-Accepted.is) in
     next_refuses c.args.bytes.now (count_lines c.args.bytes.now ++ row_lines c.args.bytes.now) (content_lines c.args.bytes.now) _ taken.0
     (wrong_target c.args.bytes.now _ (found_at _ _ (sym c.in-At.is ∙ c.wrong_target.ensures)))
 
 pub empty_row-requires : goal.empty_row-requires
 empty_row-requires c =
-    let taken : (first_given (count_lines c.args.bytes.now ++ row_lines c.args.bytes.now) ≡ none) × (c.in-Accepted.t ≡ table_of c.args.bytes.now) = accepts_says c.args.bytes.now _ c.in-Accepted.t (sym c.laid_out-answer.ensures ∙ c.in-Accepted.is) in
+    let taken : (first_given (count_lines c.args.bytes.now ++ row_lines c.args.bytes.now) ≡ None) × (c.in-Accepted.t ≡ table_of c.args.bytes.now) = accepts_says c.args.bytes.now _ c.in-Accepted.t (sym c.laid_out-answer.ensures ∙ c.in-Accepted.is) in
     let laid : LaidOut c.args.bytes.now c.in-Accepted.t × RowsRight c.args.bytes.now = let (counts, rows) = none_in_parts (count_lines c.args.bytes.now) (row_lines c.args.bytes.now) taken.0 in
     let (layout, right) = rows_leave c.args.bytes.now rows in
     (laid_out c.args.bytes.now (counted c.args.bytes.now counts) layout c.in-Accepted.t taken.1, right) in
@@ -48,14 +48,14 @@ pub returns-in-At-empty_row : goal.returns-in-At-empty_row
 unfolding open_of lines_of
 returns-in-At-empty_row c =
     let b = c.args.bytes.now in
-    let taken : (first_given (count_lines b ++ row_lines b) ≡ none) × (c.in-Accepted.t ≡ table_of b) = accepts_says b _ c.in-Accepted.t (sym c.laid_out-answer.ensures ∙ c.in-Accepted.is) in
-    let targets : let b = b in first_in 0 (edges_of b) (target_wrong b) ≡ none = found_none _ (sym c.in_default-wrong_target.is ∙ c.wrong_target.ensures) in
+    let taken : (first_given (count_lines b ++ row_lines b) ≡ None) × (c.in-Accepted.t ≡ table_of b) = accepts_says b _ c.in-Accepted.t (sym c.laid_out-answer.ensures ∙ c.in-Accepted.is) in
+    let targets : let b = b in first_in 0 (edges_of b) (target_wrong b) ≡ None = found_none _ (sym c.in_default-wrong_target.is ∙ c.wrong_target.ensures) in
     next_refuses b (count_lines b ++ row_lines b) (content_lines b) _ taken.0
     (empty_row b targets _ (found_at _ _ (sym c.in-At-empty_row.is ∙ c.empty_row.ensures)))
 
 pub wrong_mark-requires : goal.wrong_mark-requires
 wrong_mark-requires c =
-    let taken : (first_given (count_lines c.args.bytes.now ++ row_lines c.args.bytes.now) ≡ none) × (c.in-Accepted.t ≡ table_of c.args.bytes.now) = accepts_says c.args.bytes.now _ c.in-Accepted.t (sym c.laid_out-answer.ensures ∙ c.in-Accepted.is) in
+    let taken : (first_given (count_lines c.args.bytes.now ++ row_lines c.args.bytes.now) ≡ None) × (c.in-Accepted.t ≡ table_of c.args.bytes.now) = accepts_says c.args.bytes.now _ c.in-Accepted.t (sym c.laid_out-answer.ensures ∙ c.in-Accepted.is) in
     let laid : LaidOut c.args.bytes.now c.in-Accepted.t × RowsRight c.args.bytes.now = let (counts, rows) = none_in_parts (count_lines c.args.bytes.now) (row_lines c.args.bytes.now) taken.0 in
     let (layout, right) = rows_leave c.args.bytes.now rows in
     (laid_out c.args.bytes.now (counted c.args.bytes.now counts) layout c.in-Accepted.t taken.1, right) in
@@ -65,9 +65,9 @@ pub returns-in-At-wrong_mark : goal.returns-in-At-wrong_mark
 unfolding open_of lines_of
 returns-in-At-wrong_mark c =
     let b = c.args.bytes.now in
-    let taken : (first_given (count_lines b ++ row_lines b) ≡ none) × (c.in-Accepted.t ≡ table_of b) = accepts_says b _ c.in-Accepted.t (sym c.laid_out-answer.ensures ∙ c.in-Accepted.is) in
-    let targets : let b = b in first_in 0 (edges_of b) (target_wrong b) ≡ none = found_none _ (sym c.in_default-wrong_target.is ∙ c.wrong_target.ensures) in
-    let no_empty : let b = b in first_in 0 (states_of b) (row_empty b) ≡ none = found_none _ (sym c.in_default-empty_row.is ∙ c.empty_row.ensures) in
+    let taken : (first_given (count_lines b ++ row_lines b) ≡ None) × (c.in-Accepted.t ≡ table_of b) = accepts_says b _ c.in-Accepted.t (sym c.laid_out-answer.ensures ∙ c.in-Accepted.is) in
+    let targets : let b = b in first_in 0 (edges_of b) (target_wrong b) ≡ None = found_none _ (sym c.in_default-wrong_target.is ∙ c.wrong_target.ensures) in
+    let no_empty : let b = b in first_in 0 (states_of b) (row_empty b) ≡ None = found_none _ (sym c.in_default-empty_row.is ∙ c.empty_row.ensures) in
     next_refuses b (count_lines b ++ row_lines b) (content_lines b) _ taken.0
     (wrong_mark b targets no_empty _ (found_at _ _ (sym c.in-At-wrong_mark.is ∙ c.wrong_mark.ensures)))
 
@@ -75,9 +75,9 @@ pub returns : goal.returns
 unfolding open_of lines_of
 returns c =
     let b = c.args.bytes.now in
-    let taken : (first_given (count_lines b ++ row_lines b) ≡ none) × (c.in-Accepted.t ≡ table_of b) = accepts_says b _ c.in-Accepted.t (sym c.laid_out-answer.ensures ∙ c.in-Accepted.is) in
-    let targets : let b = b in first_in 0 (edges_of b) (target_wrong b) ≡ none = found_none _ (sym c.in_default-wrong_target.is ∙ c.wrong_target.ensures) in
-    let no_empty : let b = b in first_in 0 (states_of b) (row_empty b) ≡ none = found_none _ (sym c.in_default-empty_row.is ∙ c.empty_row.ensures) in
+    let taken : (first_given (count_lines b ++ row_lines b) ≡ None) × (c.in-Accepted.t ≡ table_of b) = accepts_says b _ c.in-Accepted.t (sym c.laid_out-answer.ensures ∙ c.in-Accepted.is) in
+    let targets : let b = b in first_in 0 (edges_of b) (target_wrong b) ≡ None = found_none _ (sym c.in_default-wrong_target.is ∙ c.wrong_target.ensures) in
+    let no_empty : let b = b in first_in 0 (states_of b) (row_empty b) ≡ None = found_none _ (sym c.in_default-empty_row.is ∙ c.empty_row.ensures) in
     next_accepts b (count_lines b ++ row_lines b) (content_lines b) _ taken.0
     (content_off b targets no_empty (found_none _ (sym c.in_default-wrong_mark.is ∙ c.wrong_mark.ensures)))
     taken.1

@@ -1,34 +1,36 @@
--- It scans the row of s for the target s2, and an edge is a target in the row.
-use Rattle.std.proofs.Common.{sym, ap, ◌∙◌, ◌<◌, suc, true≢false, arith, eq-eqb}
+-- `find` gives the place of the edge, the first target s2 in the row of s; there is one where s to s2 is an edge.
+use Rattle.std.proofs.Common.{sym, ap, ◌∙◌, ◌≡◌, ◌<◌, ◌≤◌, ◌&&◌, suc, true, false, arith, rules, tests, eq-eqb, ne_eqb, lt-ltb}
+use Rattle.std.proofs.Math.Dec.{eqb, ltb}
 use Rattle.std.proofs.Math.Numerals.{add-one}
-use Rattle.table.specs.Layout.{row_start, target}
-use Rattle.table.specs.BlockOf.{block_of}
-use Rattle.table.proofs.Facts.{fails_if_not_passes}
+use Rattle.std.specs.Prelude.{is_some, Option, ℕ, Bool}
+use Rattle.std.proofs.lemmas.Iterator.{first_from_Range, serves_from_Range}
+use Rattle.table.specs.Layout.{states_of, row_start, target}
+use Rattle.table.specs.BlockOf.{block_of, edge_at}
+use Rattle.table.specs.First.{first_in}
+use Rattle.table.proofs.First.{first_found}
 use Rattle.table.proofs.Rows.{row_starts_to}
-use Rattle.table.proofs.Sound.{edge_is}
 use Rattle.table.proofs.read.has_edge.Goals as goal
 
-pub target-x-requires : goal.target-x-requires
-target-x-requires c =
+pub find-requires-clause-callable : goal.find-requires-clause-callable
+find-requires-clause-callable c =
     let b = c.args.bytes.now in
     let s = c.args.s in
-    record {
-      states_are = omega arith;
-      inside = omega (arith, c.loop-i.invariant.to, row_starts_to b c.requires.well_formed.rows (suc s) (omega arith), ap (row_start b) (add-one s));
-    }
-
-pub returns-then-x-s2 : goal.returns-then-x-s2
-returns-then-x-s2 c =
-    let b = c.args.bytes.now in
-    let s = c.args.s in
-    let here : c.loop-i.i < row_start b (suc s) = omega (arith, ap (row_start b) (add-one s)) in
-    sym ((edge_is b s c.args.s2).1 (omega arith, (c.loop-i.i, c.loop-i.invariant.from, here, omega arith)))
+    serves_from_Range (λ x q k. search (rules, tests)) (λ x low high.
+    let to = row_starts_to b c.requires.well_formed.rows (suc s) (omega arith) in
+    let e = ap (row_start b) (add-one s) in
+    let f = c.row_start-2.ensures in
+    let g = c.requires.states_value.0 in
+    let h = c.requires.well_formed.size in
+    search rules)
 
 pub returns : goal.returns
+unfolding block_of edge_at
 returns c =
     let b = c.args.bytes.now in
     let s = c.args.s in
-    let s2 = c.args.s2 in
-    sym (fails_if_not_passes ((block_of b).edge s s2) (λ e.
-    let (p, (i, f, g, q)) = (edge_is b s s2).0 e in
-    true≢false (sym (eq-eqb (target b i) s2 q) ∙ c.loop-i.invariant.none i f (omega (arith, ap (row_start b) (add-one s))))))
+    let leads : ℕ → Bool = λ i. eqb (target b i) c.args.s2 in
+    let first : c.find.result ≡ first_in c.row_start.result c.row_start-2.result leads = first_found _ _ leads _ (first_from_Range _ _ _ _ (λ i. leads i ≡ true) (λ i. leads i ≡ false) c.find.ensures.ran
+        (λ x q k. search (rules, tests)) (λ x q k. (search rules, search (rules, tests)))) in
+    let row : first_in c.row_start.result c.row_start-2.result leads ≡ edge_at b s c.args.s2 = λ i. first_in (c.row_start.ensures i) ((c.row_start-2.ensures ∙ ap (row_start b) (add-one s)) i) leads in
+    let state : ltb s (states_of b) ≡ true = lt-ltb _ _ (omega arith) in
+    rw (c.is_some.ensures, first, row, state)
