@@ -8,7 +8,7 @@ use Rattle.table.proofs.First.{first_none}
 use Rattle.table.specs.Given.{first_given}
 use Rattle.table.proofs.Given.{none_given, test_off, index_off}
 use Rattle.table.specs.Layout.{states_of, sets_of, table_of, row_start, mark}
-use Rattle.table.specs.Open.{row_empty, mark_wrong, count_lines, row_lines, content_lines, lines_of, open_of, why_of}
+use Rattle.table.specs.Open.{row_empty, mark_wrong, count_lines, row_lines, content_lines, lines_of, open_of}
 use Rattle.table.proofs.Bits.{low_bits}
 use Rattle.table.proofs.Facts.{facts}
 use Rattle.table.specs.LaidOut.{LaidOut}
@@ -60,12 +60,12 @@ lines_off b =
 
 pub accepted : (b : List ℕ) → (open_of b ≡ Ok (table_of b)) ↔ WellFormed b
 unfolding open_of
-accepted b = (λ e. (lines_off b).0 (accepts_says b (lines_of b) (table_of b) e).0, λ w. sym (stage_accepts b (lines_of b) (table_of b) ((lines_off b).1 w) refl))
+accepted b = (λ e. (lines_off b).0 (accepts_says b (lines_of b) (table_of b) (sym e)).0, λ w. sym (stage_accepts b (lines_of b) (table_of b) ((lines_off b).1 w) refl))
 
 -- an accepted table is the one that the header counts
 pub accepted_table : (b : List ℕ) (t : Table) → open_of b ≡ Ok t → t ≡ table_of b
 unfolding open_of
-accepted_table b t e = (accepts_says b (lines_of b) t e).1
+accepted_table b t e = (accepts_says b (lines_of b) t (sym e)).1
 
 -- so whatever is accepted is well-formed
 pub well_formed : (b : List ℕ) (t : Table) → open_of b ≡ Ok t → WellFormed b
@@ -80,7 +80,3 @@ laid b t e =
 -- what `open` says settles its answer
 pub open_settled : (b : List ℕ) (x y : Result Table Refusal) → x ≡ open_of b → y ≡ open_of b → x ≡ y
 open_settled b x y p q = settled p q
-
--- an answer of opening that is a refusal, of which `why` gave r, is the refusal r
-pub why_is : (x : Result Table Refusal) (r r' : Refusal) → x ≡ Err r' → r ≡ why_of x → x ≡ Err r
-why_is x r r' q e = cc

@@ -2,6 +2,7 @@
 -- more than the one before.
 use mathlib.Core.Path.{◌≡◌, refl, sym, ap, ◌∙◌}
 use mathlib.Core.Bool.{false}
+use mathlib.Core.Logic.{inl, inr}
 use mathlib.Core.List.{List}
 use Prim.Native.Nat.{ℕ, ◌+◌, ◌-◌, ◌≤◌, ◌<◌}
 use native.Mathlib.Omega.{arith}
@@ -12,7 +13,7 @@ use Rattle.table.specs.Layout.{states_of, target}
 use Rattle.table.specs.Open.{opens_row}
 use Rattle.table.proofs.Targets.{TargetRight, target_says, target_wrong_lem}
 use Rattle.table.proofs.Scan.{scan_begins, scan_goes_on}
-use Rattle.table.proofs.Answers.{scan_finds, scan_ends}
+use Rattle.table.proofs.Scan.{scan_finds, scan_ends}
 use Rattle.opening.proofs.faults.wrong_in_row.Invariants.{At}
 use Rattle.opening.proofs.faults.wrong_in_row.Goals as goal
 
@@ -42,12 +43,10 @@ loop-i-init c = record { scanned = scan_begins (omega arith); at_first = λ e. r
 
 pub returns-then-x-least : goal.returns-then-x-least
 returns-then-x-least c =
-    scan_finds c.loop-i.invariant.scanned c.loop-i-test.true
-    (target_wrong_lem c.args.bytes.now c.loop-i.i (below-least _ _ _ c.loop-i.least _ c.requires.by_index c.loop-i.invariant c.loop-i-test.true (omega arith)))
-
-pub returns-then-n-x : goal.returns-then-n-x
-returns-then-n-x c =
-    scan_finds c.loop-i.invariant.scanned c.loop-i-test.true (target_wrong_lem c.args.bytes.now c.loop-i.i (λ r. omega (arith, r.below)))
+    scan_finds c.loop-i.invariant.scanned c.loop-i-test.true (elim c.then-x-least.either [
+      inl l ↦ target_wrong_lem c.args.bytes.now c.loop-i.i (below-least _ _ _ c.loop-i.least _ c.requires.by_index c.loop-i.invariant c.loop-i-test.true (omega arith))
+      | inr (g, h) ↦ target_wrong_lem c.args.bytes.now c.loop-i.i (λ r. omega (arith, r.below))
+    ])
 
 pub loop-i-preserved : goal.loop-i-preserved
 loop-i-preserved c =

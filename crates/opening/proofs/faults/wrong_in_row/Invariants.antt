@@ -16,6 +16,3 @@ pub record At (b : List ℕ) (from to least i : ℕ) : Type 0 where
 
 abbrev pub invariant-loop-i : goal.invariant-loop-i
 invariant-loop-i l = At l.bytes l.from l.to l.least l.i
-
-abbrev pub decreases-loop-i : goal.decreases-loop-i
-decreases-loop-i l = l.to - l.i

@@ -2,6 +2,7 @@
 -- after the loop.
 use mathlib.Core.Path.{◌≡◌, refl, ap, ◌∙◌}
 use mathlib.Core.Bool.{false}
+use mathlib.Core.Logic.{inl, inr}
 use mathlib.Core.List.{List}
 use Prim.Native.Nat.{ℕ, suc, ◌+◌, ◌-◌, ◌≤◌, ◌<◌}
 use native.Mathlib.Decide.{dec_lt}
@@ -10,7 +11,7 @@ use Rattle.table.specs.Layout.{states_of, edges_of, row_start}
 use Rattle.table.specs.Open.{row_start_wrong}
 use Rattle.table.proofs.Rows.{start_says, start_wrong}
 use Rattle.table.proofs.Scan.{Scanned, scan_begins, scan_on}
-use Rattle.table.proofs.Answers.{scan_finds, scan_ends}
+use Rattle.table.proofs.Scan.{scan_finds, scan_ends}
 use Rattle.opening.proofs.faults.wrong_row_start.Invariants.{At}
 use Rattle.opening.proofs.faults.wrong_row_start.Goals as goal
 
@@ -66,24 +67,22 @@ loop-i-init c =
 
 pub returns-then-start-before : goal.returns-then-start-before
 returns-then-start-before c =
-    scan_finds (scanned c.args.bytes.now _ _ c.loop-i.invariant c.loop-i.i (omega arith) (omega arith)) (omega arith)
-    (start_wrong c.args.bytes.now c.loop-i.i (λ r. omega (arith, r.rises (λ e. omega arith))))
-
-pub returns-then-e-start : goal.returns-then-e-start
-returns-then-e-start c =
-    scan_finds (scanned c.args.bytes.now _ _ c.loop-i.invariant c.loop-i.i (omega arith) (omega arith)) (omega arith) (start_wrong c.args.bytes.now c.loop-i.i (λ r. omega (arith, r.below)))
+    scan_finds (scanned c.args.bytes.now _ _ c.loop-i.invariant c.loop-i.i (omega arith) (omega arith)) (omega arith) (elim c.then-start-before.either [
+      inl l ↦ start_wrong c.args.bytes.now c.loop-i.i (λ r. omega (arith, r.rises (λ e. omega arith)))
+      | inr (g, h) ↦ start_wrong c.args.bytes.now c.loop-i.i (λ r. omega (arith, r.below))
+    ])
 
 pub loop-i-preserved : goal.loop-i-preserved
 loop-i-preserved c = one_more c.args.bytes.now _ _ _ c.loop-i.invariant (omega arith) c.row_start-start.ensures c.if-start-before.false (omega arith)
 
-pub returns-then-before-e : goal.returns-then-before-e
-returns-then-before-e c =
+pub returns-else-before-t : goal.returns-else-before-t
+returns-else-before-t c =
     let p : c.loop-i.i - 1 ≡ c.args.t.states = omega arith in
     scan_finds (scanned c.args.bytes.now _ _ c.loop-i.invariant c.args.t.states (omega arith) (omega arith)) (omega arith)
     (start_wrong c.args.bytes.now c.args.t.states (λ r. omega (arith, r.last (omega arith), c.loop-i.invariant.before-is, ap (row_start c.args.bytes.now) p)))
 
-pub returns : goal.returns
-returns c =
+pub returns-then-before-t : goal.returns-then-before-t
+returns-then-before-t c =
     let s = scanned c.args.bytes.now _ _ c.loop-i.invariant (states_of c.args.bytes.now) (omega arith) (omega arith) in
     scan_ends (scan_on (states_of c.args.bytes.now + 1) s (omega arith) (omega arith) (λ j p q. right c.args.bytes.now _ _ c.loop-i.invariant j (omega arith) (λ e.
     let d : j ≡ c.loop-i.i - 1 = omega arith in

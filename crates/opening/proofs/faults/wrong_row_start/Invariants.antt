@@ -17,6 +17,3 @@ pub record At (b : List ℕ) (before i : ℕ) : Type 0 where
 
 abbrev pub invariant-loop-i : goal.invariant-loop-i
 invariant-loop-i l = At l.bytes l.before l.i
-
-abbrev pub decreases-loop-i : goal.decreases-loop-i
-decreases-loop-i l = l.n + 1 - l.i

@@ -16,6 +16,3 @@ pub record At (b : List ℕ) (from s : ℕ) : Type 0 where
 
 abbrev pub invariant-loop-s : goal.invariant-loop-s
 invariant-loop-s l = At l.bytes l.from l.s
-
-abbrev pub decreases-loop-s : goal.decreases-loop-s
-decreases-loop-s l = l.n - l.s
