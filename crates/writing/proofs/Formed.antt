@@ -1,5 +1,5 @@
 -- Laws of specs/Formed.antt. Assumes nothing.
-use Rattle.std.specs.Prelude.{◌≡◌, List, ℕ, suc, ◌+◌, ◌≤◌, ◌<◌}
+use Rattle.std.specs.Prelude.{◌≡◌, List, ℕ, suc, ◌+◌, ◌≤◌, ◌<◌, Ok}
 use Rattle.std.proofs.Math.Path.{sym, ap}
 use Rattle.std.proofs.Common.{◌∙◌, arith}
 use Rattle.table.specs.Layout.{states_of, edges_of, sets_of, row_start}
@@ -7,7 +7,6 @@ use Rattle.table.specs.Open.{open_of}
 use Rattle.table.proofs.Bits.{low_bits}
 use Rattle.table.specs.WellFormed.{WellFormed}
 use Rattle.table.proofs.WellFormed.{accepted}
-use Rattle.table.specs.declared.Opened.TheVariants.{Accepted}
 use Rattle.writing.specs.File.{join_to, start_in, file_with}
 use Rattle.writing.proofs.Joined.{join_step, join_rise}
 use Rattle.writing.proofs.FileRead as file
@@ -79,7 +78,7 @@ module _ (m n : ℕ) (row : ℕ → List ℕ) (marks : ℕ → ℕ) (within : In
       }
 
   -- so opening accepts it, with its counts
-  pub file_accepted : NoneEmpty n row → open_of (file_with 1 m n row marks) ≡ Accepted (record { states = n; edges = start_in row n; sets = m })
+  pub file_accepted : NoneEmpty n row → open_of (file_with 1 m n row marks) ≡ Ok (record { states = n; edges = start_in row n; sets = m })
   file_accepted full = (accepted F).1 (file_well_formed full) ∙ rw (states_is, edges_is, sets_is)
 
   -- and it has what it was made of

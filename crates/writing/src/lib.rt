@@ -22,17 +22,7 @@ pub fn clear(words: &mut [u32], k: usize)
     requires { k ≤ length words.old }
     ensures { words.new ≡ cleared k words.old }
 {
-    let mut i = 0;
-    while i < k {
-        words[i] = 0;
-        i += 1;
-    }
-}
-
-fn wide(x: u32) -> usize
-    ensures { result ≡ x }
-{
-    x as usize
+    words[..k].fill(0);
 }
 
 // The word at index i.
@@ -40,5 +30,5 @@ pub fn at(words: &[u32], i: usize) -> usize
     requires { i < length words.now }
     ensures { result ≡ get_or words.now i 0 }
 {
-    wide(words[i])
+    words[i] as usize
 }

@@ -39,8 +39,8 @@ returns-then-v-m c = v_on _ _ _ c.requires.2 (omega (arith, c.if-v-m.true, one_s
 pub returns-then-not-self : goal.returns-then-not-self
 returns-then-not-self c = live_on _ _ _ c.requires.2 (omega (arith, c.if-v-m.false, one_shl c.args.m (omega arith))) (not-true _ c.if-not-self.true)
 
-pub returns-then-t-n : goal.returns-then-t-n
-returns-then-t-n c = t_on _ _ _ c.requires.2 (omega (arith, c.if-v-m.false, one_shl c.args.m (omega arith))) (not-false _ c.if-not-self.false) c.if-t-n.true
+pub returns-then-self-n : goal.returns-then-self-n
+returns-then-self-n c = t_on _ _ _ c.requires.2 (omega (arith, c.if-v-m.false, one_shl c.args.m (omega arith))) (not-false _ c.if-not-self.false) c.if-self-n.true
 
 pub returns : goal.returns
-returns c = s_on _ _ _ c.requires.2 (omega (arith, c.if-v-m.false, one_shl c.args.m (omega arith))) (not-false _ c.if-not-self.false) c.if-t-n.false
+returns c = s_on _ _ _ c.requires.2 (omega (arith, c.if-v-m.false, one_shl c.args.m (omega arith))) (not-false _ c.if-not-self.false) c.if-self-n.false

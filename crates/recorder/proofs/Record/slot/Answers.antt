@@ -17,7 +17,7 @@ module _ (n m : ℕ) (r : Record) (pre : (n ≤ 64) × (m ≤ 8) × InRange n m 
   slot_is = rw (one_shl m (omega arith), byte_is_bit r.live)
 
 pub overflow_add-result-4 : goal.overflow_add-result-4
-overflow_add-result-4 c = omega (arith, slot_is _ _ _ c.requires, slot_small _ _ _ c.requires)
+overflow_add-result-4 c = rw c.from.ensures (omega (arith, slot_is _ _ _ c.requires, slot_small _ _ _ c.requires))
 
 pub returns : goal.returns
-returns c = slot_is _ _ _ c.requires
+returns c = rw c.from.ensures (slot_is _ _ _ c.requires)
