@@ -28,13 +28,20 @@ module _ {lo hi : ℕ} {P : ℕ → Bool} where
   pub scan_goes_on : {i : ℕ} → Scanned lo hi P i → i < hi → P i ≡ false → Scanned lo hi P (i + 1)
   scan_goes_on {i} s h e = scan_on (i + 1) s (omega arith) (omega arith) (λ j p q. let d : j ≡ i = omega arith in rw d e)
 
-  -- the test passes at i: it is the first such index
-  pub scan_finds : {i : ℕ} → Scanned lo hi P i → i < hi → P i ≡ true → Some i ≡ first_in lo hi P
-  scan_finds {i} s h e = sym ((first_some lo hi P i).1 (record { from = s.from; below = h; passes = e; before = s.none }))
+  -- the test passes at i
+  pub scan_first : {i : ℕ} → Scanned lo hi P i → i < hi → P i ≡ true → first_in lo hi P ≡ Some i
+  scan_first {i} s h e = (first_some lo hi P i).1 (record { from = s.from; below = h; passes = e; before = s.none })
 
   -- the indices are at an end
+  pub scan_none : {i : ℕ} → Scanned lo hi P i → hi ≤ i → first_in lo hi P ≡ None
+  scan_none {i} s h = (first_none lo hi P).1 (λ j p q. s.none j p (omega (arith, h)))
+
+  -- the same as the code answers
+  pub scan_finds : {i : ℕ} → Scanned lo hi P i → i < hi → P i ≡ true → Some i ≡ first_in lo hi P
+  scan_finds s h e = sym (scan_first s h e)
+
   pub scan_ends : {i : ℕ} → Scanned lo hi P i → hi ≤ i → None ≡ first_in lo hi P
-  scan_ends {i} s h = sym ((first_none lo hi P).1 (λ j p q. s.none j p (omega (arith, h))))
+  scan_ends s h = sym (scan_none s h)
 
   -- a scan of the part from i to k answers: it found one, or there is none in that part
   pub part_finds : {i k x : ℕ} → Scanned lo hi P i → k ≤ hi → Some x ≡ first_in i k P → Some x ≡ first_in lo hi P

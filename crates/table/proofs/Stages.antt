@@ -29,32 +29,42 @@ unfolding opened_by
 stage_accepts b ls t e q = ap Ok q ∙ ap (answer_of b) (sym e)
 
 -- an answer that accepts is given where no line is, and one that refuses where that line is the first
-pub accepts_says : (b : List ℕ) (ls : List (Option Refusal)) (t : Table) → Ok t ≡ opened_by b ls → (first_given ls ≡ None) × (t ≡ table_of b)
+pub accepts_says : (b : List ℕ) (ls : List (Option Refusal)) (t : Table) → opened_by b ls ≡ Ok t → (first_given ls ≡ None) × (t ≡ table_of b)
 unfolding opened_by
 accepts_says b ls t = go (first_given ls)
   where
-    go : (o : Option Refusal) → Ok t ≡ answer_of b o → (o ≡ None) × (t ≡ table_of b)
+    go : (o : Option Refusal) → answer_of b o ≡ Ok t → (o ≡ None) × (t ≡ table_of b)
     go None e = (refl, cc)
     go (Some r) e = absurd (let z : ◌≡◌ {A = ℕ} 0 1 = cc in omega arith)
 
-pub refuses_says : (b : List ℕ) (ls : List (Option Refusal)) (r : Refusal) → Err r ≡ opened_by b ls → first_given ls ≡ Some r
+pub refuses_says : (b : List ℕ) (ls : List (Option Refusal)) (r : Refusal) → opened_by b ls ≡ Err r → first_given ls ≡ Some r
 unfolding opened_by
 refuses_says b ls r = go (first_given ls)
   where
-    go : (o : Option Refusal) → Err r ≡ answer_of b o → o ≡ Some r
+    go : (o : Option Refusal) → answer_of b o ≡ Err r → o ≡ Some r
     go None e = absurd (let z : ◌≡◌ {A = ℕ} 0 1 = cc in omega arith)
     go (Some x) e = cc
 
--- the next stage: what was refused stays refused, and after a table that was accepted its own lines decide
+-- the next stage: what was refused stays refused, and after lines that are not given its own decide
+pub stays_refused : (b : List ℕ) (xs ys : List (Option Refusal)) (x : Result Table Refusal) (r : Refusal) → x ≡ opened_by b xs → x ≡ Err r → x ≡ opened_by b (xs ++ ys)
+stays_refused b xs ys x r p q = q ∙ stage_refuses b (xs ++ ys) r (part_on xs ys r (refuses_says b xs r (sym p ∙ q)))
+
+pub next_refuses : (b : List ℕ) (xs ys : List (Option Refusal)) (r : Refusal) → first_given xs ≡ None → first_given ys ≡ Some r → Err r ≡ opened_by b (xs ++ ys)
+next_refuses b xs ys r h e = stage_refuses b (xs ++ ys) r (part_off xs ys h ∙ e)
+
+pub next_accepts : (b : List ℕ) (xs ys : List (Option Refusal)) (t : Table) → first_given xs ≡ None → first_given ys ≡ None → t ≡ table_of b → Ok t ≡ opened_by b (xs ++ ys)
+next_accepts b xs ys t h e = stage_accepts b (xs ++ ys) t (part_off xs ys h ∙ e)
+
+-- the same as a `?` has it: the refusal is handed on, and after a table that was accepted the stage's own lines decide
 module _ (b : List ℕ) (xs ys : List (Option Refusal)) where
-  pub stays_refused : {r : Refusal} → Err r ≡ opened_by b xs → Err r ≡ opened_by b (xs ++ ys)
-  stays_refused {r} e = stage_refuses b (xs ++ ys) r (part_on xs ys r (refuses_says b xs r e))
+  pub handed_on : {r : Refusal} → Err r ≡ opened_by b xs → Err r ≡ opened_by b (xs ++ ys)
+  handed_on {r} e = stays_refused b xs ys (Err r) r e refl
 
-  pub next_refuses : {t : Table} {r : Refusal} → Ok t ≡ opened_by b xs → first_given ys ≡ Some r → Err r ≡ opened_by b (xs ++ ys)
-  next_refuses {t} {r} a e = stage_refuses b (xs ++ ys) r (part_off xs ys (accepts_says b xs t a).0 ∙ e)
+  pub then_refuses : {t : Table} {r : Refusal} → Ok t ≡ opened_by b xs → first_given ys ≡ Some r → Err r ≡ opened_by b (xs ++ ys)
+  then_refuses {t} {r} a = next_refuses b xs ys r (accepts_says b xs t (sym a)).0
 
-  pub next_accepts : {t : Table} → Ok t ≡ opened_by b xs → first_given ys ≡ None → Ok t ≡ opened_by b (xs ++ ys)
-  next_accepts {t} a e = let (h, q) = accepts_says b xs t a in stage_accepts b (xs ++ ys) t (part_off xs ys h ∙ e) q
+  pub then_accepts : {t : Table} → Ok t ≡ opened_by b xs → first_given ys ≡ None → Ok t ≡ opened_by b (xs ++ ys)
+  then_accepts {t} a e = let (h, q) = accepts_says b xs t (sym a) in next_accepts b xs ys t h e q
 
 module _ (b : List ℕ) where
   -- ---- lines 1, 2, 3, 14 and 15
@@ -127,7 +137,7 @@ module _ (b : List ℕ) where
   -- what a table that was accepted after them has
   pub laid_out_rows : {t : Table} → Ok t ≡ opened_by b (count_lines b ++ row_lines b) → LaidOut b t × RowsRight b
   laid_out_rows {t} a =
-      let (h, q) = accepts_says b (count_lines b ++ row_lines b) t a in
+      let (h, q) = accepts_says b (count_lines b ++ row_lines b) t (sym a) in
       let (counts, rows) = none_in_parts (count_lines b) (row_lines b) h in
       let (layout, right) = rows_leave rows in
       (laid_out (counted counts) layout t q, right)

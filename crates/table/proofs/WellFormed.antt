@@ -60,12 +60,12 @@ lines_off b =
 
 pub accepted : (b : List ℕ) → (open_of b ≡ Ok (table_of b)) ↔ WellFormed b
 unfolding open_of
-accepted b = (λ e. (lines_off b).0 (accepts_says b (lines_of b) (table_of b) (sym e)).0, λ w. sym (stage_accepts b (lines_of b) (table_of b) ((lines_off b).1 w) refl))
+accepted b = (λ e. (lines_off b).0 (accepts_says b (lines_of b) (table_of b) e).0, λ w. sym (stage_accepts b (lines_of b) (table_of b) ((lines_off b).1 w) refl))
 
 -- an accepted table is the one that the header counts
 pub accepted_table : (b : List ℕ) (t : Table) → open_of b ≡ Ok t → t ≡ table_of b
 unfolding open_of
-accepted_table b t e = (accepts_says b (lines_of b) t (sym e)).1
+accepted_table b t e = (accepts_says b (lines_of b) t e).1
 
 -- so whatever is accepted is well-formed
 pub well_formed : (b : List ℕ) (t : Table) → open_of b ≡ Ok t → WellFormed b

@@ -117,7 +117,7 @@ module _ (b : List ℕ) where
   first_line r z only i = (
     λ (r', (e, (n, p))).
         let d : r' ≡ r = sym (told r') ∙ (λ j. refusal_of (n j) (place_of r')) ∙ only (place_of r') in
-        (sym p ∙ ap place_of d ∙ z, refuses_says b (lines_of b) r (sym (e ∙ ap Err d))),
+        (sym p ∙ ap place_of d ∙ z, refuses_says b (lines_of b) r (e ∙ ap Err d)),
     λ (q, e). (r, (sym (stage_refuses b (lines_of b) r e), (refl, z ∙ sym q))),
   )
 

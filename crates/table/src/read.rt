@@ -14,10 +14,7 @@ pub fn word(bytes: &[u8], at: usize) -> usize
     requires { at + 4 ≤ length bytes.now }
     ensures { result ≡ word_at bytes.now at }
 {
-    usize::from(bytes[at])
-        + 256 * usize::from(bytes[at + 1])
-        + 65536 * usize::from(bytes[at + 2])
-        + 16777216 * usize::from(bytes[at + 3])
+    u32::from_le_bytes([bytes[at], bytes[at + 1], bytes[at + 2], bytes[at + 3]]) as usize
 }
 
 // Row start s.

@@ -44,7 +44,7 @@ pub part_length : (a e : ℕ) (w : List ℕ) → a ≤ e → e ≤ length w → 
 part_length a e w h l = length-take-le (e - a) (drop a w) (omega (arith, length-drop a w))
 
 -- the buffer then has ys there
-part_placed : (a k : ℕ) (ys w : List ℕ) → length ys ≡ k → take a w ++ (ys ++ drop k (drop a w)) ≡ placed a ys w
+pub part_placed : (a k : ℕ) (ys w : List ℕ) → length ys ≡ k → take a w ++ (ys ++ drop k (drop a w)) ≡ placed a ys w
 unfolding placed
 part_placed a k ys w l =
     sym (append_assoc (take a w) ys (drop k (drop a w))) ∙ ap (λ (r : List ℕ). take a w ++ ys ++ r) (drop-drop k a w ∙ ap (λ (k : ℕ). drop (a + k) w) (sym l))

@@ -11,10 +11,7 @@ pub fn put(part: &mut [u8], at: usize, x: usize)
     requires { at + 4 ≤ length part.old }
     ensures { part.new ≡ placed at (little_endian (x ∷ [])) part.old }
 {
-    part[at] = (x % 256) as u8;
-    part[at + 1] = (x / 256 % 256) as u8;
-    part[at + 2] = (x / 65536 % 256) as u8;
-    part[at + 3] = (x / 16777216 % 256) as u8;
+    part[at..at + 4].copy_from_slice(&((x % 4294967296) as u32).to_le_bytes());
 }
 
 // Sets the first k words to 0.

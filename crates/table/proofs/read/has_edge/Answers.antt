@@ -30,7 +30,7 @@ returns c =
     let s = c.args.s in
     let leads : ℕ → Bool = λ i. eqb (target b i) c.args.s2 in
     let first : c.find.result ≡ first_in c.row_start.result c.row_start-2.result leads = first_found _ _ leads _ (first_from_Range _ _ _ _ (λ i. leads i ≡ true) (λ i. leads i ≡ false) c.find.ensures.ran
-        (λ x q k. search (rules, tests)) (λ x q k. (search rules, search (rules, tests)))) in
+    (λ x q k. search (rules, tests)) (λ x q k. (search rules, search (rules, tests)))) in
     let row : first_in c.row_start.result c.row_start-2.result leads ≡ edge_at b s c.args.s2 = λ i. first_in (c.row_start.ensures i) ((c.row_start-2.ensures ∙ ap (row_start b) (add-one s)) i) leads in
     let state : ltb s (states_of b) ≡ true = lt-ltb _ _ (omega arith) in
     rw (c.is_some.ensures, first, row, state)
