@@ -80,3 +80,12 @@ laid b t e =
 -- what `open` says settles its answer
 pub open_settled : (b : List ℕ) (x y : Result Table Refusal) → x ≡ open_of b → y ≡ open_of b → x ≡ y
 open_settled b x y p q = settled p q
+
+-- what a job has of a table that it opened
+pub record Opened (b : List ℕ) (t : Table) : Type 0 where
+  pub accepted : open_of b ≡ Ok t
+  pub formed : WellFormed b
+  pub laid : LaidOut b t
+
+pub opened : (b : List ℕ) (t : Table) → Ok t ≡ open_of b → Opened b t
+opened b t e = record { accepted = sym e; formed = well_formed b t (sym e); laid = laid b t (sym e) }
