@@ -1,6 +1,10 @@
 -- Laws of specs/Sizes.antt. Assumes nothing.
-use Rattle.std.specs.Prelude.{◌≡◌, refl, cond, ℕ, zero, suc, ◌+◌, ◌*◌, ◌^◌, ◌≤◌, eqb}
+use Rattle.std.specs.Prelude.{◌≡◌, refl, cond, List, ℕ, zero, suc, ◌+◌, ◌*◌, ◌^◌, ◌≤◌, eqb}
 use Rattle.std.proofs.Common.{mul-le-mul, arith, pow_mono, eq-eqb, ne_eqb}
+use Rattle.recorder.specs.Slots.{slot_count}
+use Rattle.recorder.proofs.Fits.{count_small}
+use Rattle.table.specs.LaidOut.{LaidOut}
+use Rattle.table.specs.declared.Table.{Table}
 use Rattle.quote.specs.Sizes.{edge_count}
 
 -- ---- where E comes from
@@ -30,3 +34,8 @@ edges_small n e m hn he hm =
     let h : n + 2 ≤ 66 = omega arith in
     let k : m + 1 ≤ 9 = omega arith in
     mul-le-mul (mul-le-mul he h) (pow_mono k)
+
+-- the sizes of a table that is laid out are small
+pub sizes_small : (b : List ℕ) (t : Table) → LaidOut b t → (slot_count t.states t.sets ≤ 64 * 65 * 2 ^ 9) × (edge_count t.states t.edges t.sets ≤ 1024 * 66 * 2 ^ 9)
+sizes_small b t l =
+    (count_small t.states t.sets l.states_to (omega (arith, l.sets_to)), edges_small t.states t.edges t.sets l.states_to l.edges_to (omega (arith, l.sets_to)))

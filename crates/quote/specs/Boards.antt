@@ -1,7 +1,6 @@
--- The boards and the board rule. docs/RULES.md, "Quote sheet": the first row with room for both S and E, rows numbered 0 to 7, or 8 for
--- none. Definitions only. Assumes nothing.
-use Rattle.std.specs.Prelude.{Bool, ◌&&◌, List, [], ◌∷◌, ℕ, leb, get_or}
-use Rattle.std.proofs.Math.Option
+-- The boards and the board rule. docs/RULES.md, "Quote sheet": the first row with room for both S and E, rows numbered 0 to 7, or none. Definitions
+-- only. Assumes nothing.
+use Rattle.std.specs.Prelude.{Option, Bool, ◌&&◌, List, [], ◌∷◌, ℕ, leb, get_or}
 use Rattle.table.specs.First.{first_in}
 use Rattle.quote.specs.declared.boards.Board.{Board}
 
@@ -23,5 +22,5 @@ unfoldable pub has_room : ℕ → ℕ → ℕ → Bool
 unfolding boards
 has_room S E r = let board = get_or boards r (record { slots = 0; edges = 0 }) in leb S board.slots && leb E board.edges
 
-unfoldable pub board_of : ℕ → ℕ → ℕ
-board_of S E = Option.get_or (first_in 0 8 (has_room S E)) 8
+unfoldable pub board_of : ℕ → ℕ → Option ℕ
+board_of S E = first_in 0 8 (has_room S E)

@@ -1,10 +1,10 @@
 -- What quoting a table answers. docs/RULES.md, "Quote sheet". proofs/QuoteLaws.antt has the laws. Assumes nothing.
-use Rattle.std.specs.Prelude.{List, [], ◌∷◌, ℕ}
+use Rattle.std.specs.Prelude.{Result, Ok, Err, List, [], ◌∷◌, ℕ}
 use Rattle.recorder.specs.Slots.{slot_count}
 use Rattle.table.specs.Open.{open_of}
 use Rattle.table.specs.BlockOf.{block_of}
-use Rattle.table.specs.declared.Opened.{Opened}
-use Rattle.table.specs.declared.Opened.TheVariants.{Accepted, Refused}
+use Rattle.table.specs.declared.Table.{Table}
+use Rattle.table.specs.declared.refusal.Refusal.{Refusal}
 use Rattle.quote.specs.Sizes.{edge_count, translated_length}
 use Rattle.quote.specs.Boards.{board_of}
 use Rattle.quote.specs.Members.{members_of}
@@ -25,14 +25,11 @@ sheet_of b n e m =
       board = board_of S E;
     }
 
--- on a refusal the sheet is all zero
-abbrev pub no_sheet : Sheet
-no_sheet = record { slots = 0; edges = 0; bytes = 0; members = 0 ∷ 0 ∷ 0 ∷ 0 ∷ []; board = 0 }
-
-abbrev pub sheet_for : List ℕ → Opened → Sheet
-sheet_for b (Accepted t) = sheet_of b t.states t.edges t.sets
-sheet_for b (Refused r) = no_sheet
+-- the quote of an accepted table, or the refusal of any other
+abbrev pub quoted_as : List ℕ → Result Table Refusal → Result Quoted Refusal
+quoted_as b (Ok t) = Ok (record { table = t; sheet = sheet_of b t.states t.edges t.sets })
+quoted_as b (Err why) = Err why
 
 -- what quoting the bytes answers
-unfoldable pub quote_of : List ℕ → Quoted
-quote_of b = record { answer = open_of b; sheet = sheet_for b (open_of b) }
+unfoldable pub quote_of : List ℕ → Result Quoted Refusal
+quote_of b = quoted_as b (open_of b)

@@ -44,18 +44,11 @@ const BOARDS: [Board; 8] = [
     },
 ];
 
-// The first row with room for both, or 8 for none.
-pub(crate) fn first_with_room(slots: usize, edges: usize) -> usize
+// The first row with room for both, or none.
+pub(crate) fn first_with_room(slots: usize, edges: usize) -> Option<usize>
     ensures { result ≡ board_of slots edges }
 {
-    let boards = BOARDS;
-    let mut r = 0;
-    while r < 8 {
-        let row = boards[r];
-        if (slots <= row.slots) & (edges <= row.edges) {
-            return r;
-        }
-        r += 1;
-    }
-    8
+    BOARDS
+        .iter()
+        .position(|row| slots <= row.slots && edges <= row.edges)
 }

@@ -10,22 +10,22 @@ ghost use Rattle.quote.specs.Sizes.{edge_count};
 ghost use Rattle.quote.specs.Quote.{sheet_of, quote_of};
 
 pub use boards::Board;
-use table::{Opened, Table};
+use table::{Refusal, Table};
 
-// S, E and the translated length of the recorded table, the members of fairness sets 0 to 3, and the board: 0 to 7, or 8 for none.
+// S, E and the translated length of the recorded table, the members of fairness sets 0 to 3, and the board: 0 to 7, or none.
 #[derive(Clone, Copy)]
 pub struct Sheet {
     pub slots: usize,
     pub edges: usize,
     pub bytes: usize,
     pub members: [usize; 4],
-    pub board: usize,
+    pub board: Option<usize>,
 }
 
-// The sheet beside the answer: the table accepted, or its refusal with a sheet of zeros.
+// A table that is accepted, and its sheet.
 #[derive(Clone, Copy)]
 pub struct Quoted {
-    pub answer: Opened,
+    pub table: Table,
     pub sheet: Sheet,
 }
 
@@ -44,38 +44,27 @@ fn sheet_of(bytes: &[u8], t: Table) -> Sheet
 {
     let slots = recorder::slot_count(t.states, t.sets);
     let edges = edge_count(t.states, t.edges, t.sets);
-    let first = members::count(bytes, t, 0);
-    let second = members::count(bytes, t, 1);
-    let third = members::count(bytes, t, 2);
-    let fourth = members::count(bytes, t, 3);
     Sheet {
         slots,
         edges,
         bytes: 32 + 5 * slots + 4 * edges,
-        members: [first, second, third, fourth],
+        members: [
+            members::count(bytes, t, 0),
+            members::count(bytes, t, 1),
+            members::count(bytes, t, 2),
+            members::count(bytes, t, 3),
+        ],
         board: boards::first_with_room(slots, edges),
     }
 }
 
-// Prices a table: its sheet, or zeros beside the refusal.
-pub fn quote(bytes: &[u8]) -> Quoted
+// Prices a table.
+pub fn quote(bytes: &[u8]) -> Result<Quoted, Refusal>
     ensures { result ≡ quote_of bytes.now }
 {
-    let answer = opening::open(bytes);
-    let Opened::Accepted(t) = answer else {
-        return Quoted {
-            answer,
-            sheet: Sheet {
-                slots: 0,
-                edges: 0,
-                bytes: 0,
-                members: [0, 0, 0, 0],
-                board: 0,
-            },
-        };
-    };
-    Quoted {
-        answer,
-        sheet: sheet_of(bytes, t),
-    }
+    let table = opening::open(bytes)?;
+    Ok(Quoted {
+        table,
+        sheet: sheet_of(bytes, table),
+    })
 }

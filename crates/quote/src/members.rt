@@ -12,14 +12,10 @@ pub(crate) fn count(bytes: &[u8], t: Table, i: usize) -> usize
     requires i_bound { i < 4 }
     ensures { result ≡ members_of (block_of bytes.now) i }
 {
-    let n = t.states;
     let unit = 1usize << i;
     let mut found = 0;
-    let mut s = 0;
-    while s < n {
-        let sets = table::fair(bytes, t, s);
-        found += sets / unit % 2;
-        s += 1;
+    for s in 0..t.states {
+        found += table::fair(bytes, t, s) / unit % 2;
     }
     found
 }

@@ -1,15 +1,14 @@
--- The sheet is that of opening's answer.
-use mathlib.Core.Path.{sym, ap, ◌∙◌}
-use Rattle.table.proofs.WellFormed.{laid}
-use Rattle.quote.specs.Quote.{sheet_for}
-use Rattle.quote.proofs.QuoteLaws.{quote_is}
+-- The sheet is that of the table that was opened; a refusal is handed on.
+use Rattle.std.proofs.lemmas.Result.{err_from_is_err_and}
+use Rattle.table.proofs.WellFormed.{opened}
+use Rattle.quote.proofs.QuoteLaws.{quote_is, quote_refused}
 use Rattle.quote.proofs.quote.Goals as goal
 
-pub returns-in_default : goal.returns-in_default
-returns-in_default c = quote_is c.args.bytes.now c.open-answer.result c.open-answer.ensures _ (sym (ap (sheet_for c.args.bytes.now) c.in_default.is))
+pub returns-in_err-table : goal.returns-in_err-table
+returns-in_err-table c = let p = err_from_is_err_and c.from_residual.result c.from_residual.ensures.1 in rw (p.1, p.2) (quote_refused _ _ c.in_err-table.ensures)
 
 pub sheet_of-requires : goal.sheet_of-requires
-sheet_of-requires c = laid _ _ (sym c.open-answer.ensures ∙ c.in-Accepted.is)
+sheet_of-requires c = (opened _ _ c.in_ok-table.ensures).laid
 
 pub returns : goal.returns
-returns c = quote_is c.args.bytes.now _ (sym c.in-Accepted.is ∙ c.open-answer.ensures) _ c.sheet_of.ensures
+returns c = quote_is _ _ c.in_ok-table.ensures _ c.sheet_of.ensures

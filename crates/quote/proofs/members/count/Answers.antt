@@ -23,15 +23,14 @@ bit_is (suc zero) h = refl
 bit_is (suc (suc x)) h = absurd (omega arith)
 
 -- one more state
-one_more : (b : List ℕ) (n i unit found s sets : ℕ) → At b n i unit found s → s < n → sets ≡ (block_of b).fair s → At b n i unit (found + sets / unit % 2) (s + 1)
+one_more : (b : List ℕ) (i unit found s sets : ℕ) → At b i unit found s → sets ≡ (block_of b).fair s → At b i unit (found + sets / unit % 2) (s + 1)
 unfolding count_below
-one_more b n i unit found s sets k h es =
+one_more b i unit found s sets k es =
     let P = holds (block_of b) i in
     let eu = k.unit-is in
     let bit : sets / unit % 2 < 2 = mod-lt _ (omega arith) in
     let same : sets / unit % 2 ≡ (block_of b).fair s / 2 ^ i % 2 = cc in
     record {
-      to = omega arith;
       unit-is = eu;
       counted = ap₂ ◌+◌ k.counted (same ∙ bit_is _ (mod-lt _ (omega arith))) ∙ sym (ap (λ (j : ℕ). count_below j P) (add-one s));
       small = omega (arith, k.small);
@@ -39,19 +38,19 @@ one_more b n i unit found s sets k h es =
 
 pub loop-s-init : goal.loop-s-init
 unfolding count_below
-loop-s-init c = record { to = omega arith; unit-is = one_shl c.args.i (omega arith); counted = refl; small = omega arith }
+loop-s-init c = record { unit-is = one_shl c.args.i (omega arith); counted = refl; small = omega arith }
 
-pub fair-sets-requires : goal.fair-sets-requires
-fair-sets-requires c = mark_inside _ _ c.requires.laid_out _ c.loop-s-test.true
+pub fair-requires : goal.fair-requires
+fair-requires c = mark_inside _ _ c.requires.laid_out _ c.loop-s-test.true
 
 pub nonzero_div-found : goal.nonzero_div-found
 nonzero_div-found c = omega (arith, c.loop-s.invariant.unit-is, pow_pos c.args.i)
 
 pub overflow_add-found : goal.overflow_add-found
-overflow_add-found c = omega (arith, mod-lt (c.fair-sets.result / (1 * 2 ^ c.args.i % 2 ^ 64)) {m = 2} (omega arith))
+overflow_add-found c = omega (arith, mod-lt (c.fair.result / (1 * 2 ^ c.args.i % 2 ^ 64)) {m = 2} (omega arith))
 
 pub loop-s-preserved : goal.loop-s-preserved
-loop-s-preserved c = one_more c.args.bytes.now _ _ _ _ _ _ c.loop-s.invariant c.loop-s-test.true c.fair-sets.ensures
+loop-s-preserved c = one_more c.args.bytes.now _ _ _ _ _ c.loop-s.invariant c.fair.ensures
 
 pub returns : goal.returns
 unfolding members_of block_of

@@ -13,8 +13,7 @@ use Rattle.quote.proofs.members.count.Given as goal
 abbrev pub holds : Block → ℕ → ℕ → Bool
 holds B i s = eqb (B.fair s / 2 ^ i % 2) 1
 
-pub record At (b : List ℕ) (n i unit found s : ℕ) : Type 0 where
-  pub to : s ≤ n
+pub record At (b : List ℕ) (i unit found s : ℕ) : Type 0 where
   -- what the code divides by: the bit of set i
   pub unit-is : unit ≡ 2 ^ i
   -- how many of the states before s set i holds
@@ -22,7 +21,4 @@ pub record At (b : List ℕ) (n i unit found s : ℕ) : Type 0 where
   pub small : found ≤ s
 
 abbrev pub invariant-loop-s : goal.invariant-loop-s
-invariant-loop-s l = At l.bytes l.n l.i l.unit l.found l.s
-
-abbrev pub decreases-loop-s : goal.decreases-loop-s
-decreases-loop-s l = l.n - l.s
+invariant-loop-s l = At l.bytes l.i l.unit l.found l.s
