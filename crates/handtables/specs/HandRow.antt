@@ -1,11 +1,10 @@
 -- A row of docs/RULES.md, "Tables by hand", and what it says that a row holds. Definitions only. Assumes nothing.
-use Rattle.std.specs.Prelude.{◌≡◌, List, ℕ, suc, length}
+use Rattle.std.specs.Prelude.{Ok, Some, ◌≡◌, List, ℕ, suc, length}
 use Rattle.order.specs.Certificate.{Item}
 use Rattle.recorder.specs.Block.{Block}
 use Rattle.recorder.specs.Lasso.{LeastLasso, NoLasso}
 use Rattle.table.specs.Open.{open_of}
 use Rattle.table.specs.BlockOf.{block_of}
-use Rattle.table.specs.declared.Opened.TheVariants.{Accepted}
 use Rattle.quote.specs.Quote.{quote_of}
 use Rattle.handtables.specs.Drawn.{Drawn, states, edges, set_count, bytes_of}
 
@@ -39,12 +38,9 @@ Answers B holds = NoLasso B
 
 -- the row holds of the rules: the table is accepted, the quote is as said, with board A, and the answer is right
 pub record RowHolds (r : HandRow) : Type 0 where
-  pub accepted : open_of (bytes_of r.table) ≡ Accepted (record { states = states r.table; edges = edges r.table; sets = set_count r.table })
-  pub quoted : (quote_of (bytes_of r.table)).sheet ≡ record {
-    slots = r.sizes.S;
-    edges = r.sizes.E;
-    bytes = r.sizes.bytes;
-    members = r.members;
-    board = 0;
-  }
+  pub accepted : open_of (bytes_of r.table) ≡ Ok (record { states = states r.table; edges = edges r.table; sets = set_count r.table })
+  pub quoted : quote_of (bytes_of r.table) ≡ Ok (record {
+    table = record { states = states r.table; edges = edges r.table; sets = set_count r.table };
+    sheet = record { slots = r.sizes.S; edges = r.sizes.E; bytes = r.sizes.bytes; members = r.members; board = Some 0 };
+  })
   pub answered : Answers (block_of (bytes_of r.table)) r.answer
