@@ -1,6 +1,6 @@
 -- Laws of specs/Quote.antt. Assumes nothing.
-use Rattle.std.specs.Prelude.{Result, Ok, Err, ◌≡◌, refl, true, false, List, [], ◌∷◌, ℕ, get_or}
-use Rattle.std.proofs.Common.{sym, true≢false}
+use Rattle.std.specs.Prelude.{Result, Ok, Err, ◌≡◌, List, [], ◌∷◌, ℕ, get_or}
+use Rattle.std.proofs.Common.{true≢false}
 use Rattle.order.proofs.Settled.{settled}
 use Rattle.table.specs.Open.{open_of}
 use Rattle.table.specs.declared.Table.{Table}

@@ -1,6 +1,6 @@
 -- What holds of a record that moved. docs/RULES.md, "The recorder", "Refusal list" and "Strength of the statements". proofs/Laws.antt has the laws of
 -- a step: the answer line by line, that the statement settles it, and that a record that moved is in range and went along an edge. Assumes nothing.
-use Rattle.std.specs.Prelude.{Option, Some, None, Result, Ok, Err, ◌≡◌, Bool, true, ℕ}
+use Rattle.std.specs.Prelude.{Ok, ◌≡◌, Bool, true, ℕ}
 use mathlib.Core.List.{List}
 use Rattle.recorder.specs.Flag.{live_flag}
 use Rattle.recorder.specs.Recorder.{step_of}

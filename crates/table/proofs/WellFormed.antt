@@ -1,5 +1,5 @@
 -- Laws of specs/WellFormed.antt. Assumes nothing.
-use Rattle.std.specs.Prelude.{◌≡◌, refl, ◌↔◌, List, ℕ, suc, ◌+◌, ◌≤◌, ◌<◌, None, Result, Ok, Err}
+use Rattle.std.specs.Prelude.{◌≡◌, refl, ◌↔◌, List, ℕ, suc, ◌+◌, ◌≤◌, ◌<◌, None, Result, Ok}
 use Rattle.std.proofs.Common.{sym, ap, ◌∙◌, zero-le}
 use Rattle.order.proofs.Settled.{settled}
 use Rattle.recorder.specs.Block.{HasBit}

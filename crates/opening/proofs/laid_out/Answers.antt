@@ -1,8 +1,7 @@
 -- What the lines of the counts refuse stays refused, and after them the code goes down lines 4 and 5.
-use Rattle.std.proofs.Common.{◌≡◌, sym, ap, ◌∙◌, arith, true}
+use Rattle.std.proofs.Common.{sym, ap, ◌∙◌, arith}
 use Rattle.std.proofs.lemmas.Result.{err_from_is_err_and}
-use Rattle.table.specs.Layout.{table_of}
-use Rattle.table.specs.Open.{layout_fits, count_lines}
+use Rattle.table.specs.Open.{count_lines}
 use Rattle.table.proofs.Stages.{Counted, counted, accepts_says, handed_on, then_refuses, then_accepts, wrong_layout, wrong_row_start, rows_off, laid_out}
 use Rattle.table.specs.declared.Table.{Table}
 use Rattle.opening.proofs.laid_out.Goals as goal

@@ -1,5 +1,5 @@
 -- What the lines before refuse stays refused, and after them the code goes down lines 6 to 8.
-use Rattle.std.proofs.Common.{◌≡◌, sym, ◌∙◌}
+use Rattle.std.proofs.Common.{sym, ◌∙◌}
 use Rattle.std.proofs.lemmas.Result.{err_from_is_err_and}
 use Rattle.table.specs.Open.{open_of, lines_of}
 use Rattle.table.proofs.Stages.{laid_out_rows, handed_on, then_refuses, then_accepts, wrong_target, empty_row, wrong_mark, content_off}

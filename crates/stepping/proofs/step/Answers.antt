@@ -1,5 +1,5 @@
 -- The table is opened and taken, the code goes down lines 12 and 13, and the rules' step reads of the block what the code read of the bytes.
-use Rattle.std.proofs.Common.{sym, ap, ◌∙◌, arith, Ok}
+use Rattle.std.proofs.Common.{sym, ap, ◌∙◌, Ok}
 use Rattle.std.proofs.lemmas.Result.{err_from_is_err_and}
 use Rattle.table.specs.BlockOf.{block_of}
 use Rattle.table.proofs.WellFormed.{opened}

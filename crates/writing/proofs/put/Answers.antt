@@ -1,5 +1,5 @@
 -- The four bytes that are copied are those of the little-endian number.
-use Rattle.std.proofs.Common.{◌≡◌, ◌∷◌, [], ◌/◌, ◌%◌, ◌+◌, ◌-◌, ℕ, arith, refl}
+use Rattle.std.proofs.Common.{◌≡◌, ◌/◌, ◌%◌, ◌+◌, ◌-◌, ℕ, arith, refl}
 use Rattle.writing.proofs.Placed.{part_placed}
 use Rattle.writing.proofs.put.Goals as goal
 

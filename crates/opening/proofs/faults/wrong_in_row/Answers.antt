@@ -44,7 +44,7 @@ loop-i-init c = record { scanned = scan_begins (omega arith); at_first = λ e. r
 pub returns-then-x-least : goal.returns-then-x-least
 returns-then-x-least c =
     scan_finds c.loop-i.invariant.scanned c.loop-i-test.true (elim c.then-x-least.either [
-      inl l ↦ target_wrong_lem c.args.bytes.now c.loop-i.i (below-least _ _ _ c.loop-i.least _ c.requires.by_index c.loop-i.invariant c.loop-i-test.true (omega arith))
+      | inl l ↦ target_wrong_lem c.args.bytes.now c.loop-i.i (below-least _ _ _ c.loop-i.least _ c.requires.by_index c.loop-i.invariant c.loop-i-test.true (omega arith))
       | inr (g, h) ↦ target_wrong_lem c.args.bytes.now c.loop-i.i (λ r. omega (arith, r.below))
     ])
 

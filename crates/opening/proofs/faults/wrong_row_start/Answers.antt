@@ -68,7 +68,7 @@ loop-i-init c =
 pub returns-then-start-before : goal.returns-then-start-before
 returns-then-start-before c =
     scan_finds (scanned c.args.bytes.now _ _ c.loop-i.invariant c.loop-i.i (omega arith) (omega arith)) (omega arith) (elim c.then-start-before.either [
-      inl l ↦ start_wrong c.args.bytes.now c.loop-i.i (λ r. omega (arith, r.rises (λ e. omega arith)))
+      | inl l ↦ start_wrong c.args.bytes.now c.loop-i.i (λ r. omega (arith, r.rises (λ e. omega arith)))
       | inr (g, h) ↦ start_wrong c.args.bytes.now c.loop-i.i (λ r. omega (arith, r.below))
     ])
 

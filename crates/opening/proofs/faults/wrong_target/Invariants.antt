@@ -1,7 +1,7 @@
 -- What the loop keeps.
 use mathlib.Core.Path.{◌≡◌}
 use mathlib.Core.List.{List}
-use Prim.Native.Nat.{ℕ, ◌-◌, ◌≤◌}
+use Prim.Native.Nat.{ℕ, ◌≤◌}
 use Rattle.table.specs.Layout.{states_of, edges_of, row_start}
 use Rattle.table.specs.Open.{target_wrong}
 use Rattle.table.proofs.Scan.{Scanned}

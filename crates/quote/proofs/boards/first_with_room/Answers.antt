@@ -1,9 +1,9 @@
 -- `position` gives the first row with room for both.
-use Rattle.std.specs.Prelude.{◌≡◌, ◌&&◌, ◌<◌, ◌≤◌, Bool, true, false, ℕ, Option, Some, None, MatchOption, leb, length}
+use Rattle.std.specs.Prelude.{◌≡◌, ◌&&◌, ◌<◌, Bool, true, false, ℕ, Option, Some, None, MatchOption, leb}
 use Rattle.std.specs.List.{AllWithin, HoldsAt}
 use Rattle.std.proofs.Common.{rules, tests, zero-le}
 use Rattle.std.proofs.lemmas.Iterator.{IsFirst-from_position, YieldsList-from_slice}
-use Rattle.table.proofs.First.{NoneIn, first_found}
+use Rattle.table.proofs.First.{first_found}
 use Rattle.quote.specs.Boards.{boards, has_room, board_of}
 use Rattle.quote.specs.declared.boards.Board.{Board}
 use Rattle.quote.proofs.boards.first_with_room.Goals as goal
@@ -15,7 +15,7 @@ fits S E row = leb S row.slots && leb E row.edges
 -- said of the rows' numbers
 by_number : (S E : ℕ) (r : Option ℕ)
     → MatchOption r (AllWithin (λ row. fits S E row ≡ false) boards 0 8)
-      (λ i. (i < 8) × HoldsAt (λ row. fits S E row ≡ true) boards i × AllWithin (λ row. fits S E row ≡ false) boards 0 i)
+    (λ i. (i < 8) × HoldsAt (λ row. fits S E row ≡ true) boards i × AllWithin (λ row. fits S E row ≡ false) boards 0 i)
     → r ≡ board_of S E
 unfolding board_of has_room fits
 by_number S E None h = first_found 0 8 (has_room S E) None (λ j l k. h j (record { slots = 0; edges = 0 }) l k)

@@ -1,8 +1,8 @@
 -- `find` gives the place of the edge, the first target s2 in the row of s; there is one where s to s2 is an edge.
-use Rattle.std.proofs.Common.{sym, ap, ◌∙◌, ◌≡◌, ◌<◌, ◌≤◌, ◌&&◌, suc, true, false, arith, rules, tests, eq-eqb, ne_eqb, lt-ltb}
+use Rattle.std.proofs.Common.{ap, ◌∙◌, ◌≡◌, suc, true, false, arith, rules, tests, lt-ltb}
 use Rattle.std.proofs.Math.Dec.{eqb, ltb}
 use Rattle.std.proofs.Math.Numerals.{add-one}
-use Rattle.std.specs.Prelude.{is_some, Option, ℕ, Bool}
+use Rattle.std.specs.Prelude.{ℕ, Bool}
 use Rattle.std.proofs.lemmas.Iterator.{first_from_Range, serves_from_Range}
 use Rattle.table.specs.Layout.{states_of, row_start, target}
 use Rattle.table.specs.BlockOf.{block_of, edge_at}
