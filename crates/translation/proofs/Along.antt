@@ -4,7 +4,7 @@
 use Rattle.std.specs.Prelude.{◌≡◌, ◌≢◌, Bool, true, false, cond, List, [], ◌∷◌, ◌++◌, ℕ, ◌+◌, ◌*◌, ◌^◌, ◌≤◌, ◌<◌, length}
 use Rattle.std.proofs.Common.{sym, ap, ap₂, ◌∙◌, arith, length-append, eq-eqb, ne_eqb}
 use Rattle.recorder.specs.Flag.{live_flag}
-use Rattle.recorder.specs.Recorder.{step_of, unsaved}
+use Rattle.recorder.specs.Recorder.{step_of}
 use Rattle.recorder.specs.Slots.{slot_of, InRange}
 use Rattle.recorder.proofs.Slots.{slot_by_state}
 use Rattle.recorder.specs.SlotGraph.{at}
@@ -12,8 +12,6 @@ use Rattle.recorder.specs.Says.{StepSays}
 use Rattle.recorder.specs.declared.Record.{Record}
 use Rattle.table.specs.BlockOf.{block_of}
 use Rattle.table.specs.Layout.{little_endian, states_of, sets_of, row_start, target}
-use Rattle.table.specs.Inside.{TargetInside}
-use Rattle.table.proofs.Inside.{target_inside}
 use Rattle.table.proofs.Row.{row_edge}
 use Rattle.table.specs.Recording.{next_of, state_of, from_of, to_of}
 use Rattle.table.proofs.Recording.{block_states, state_in, slots_few, next_in, next_in_range, step_slot}
@@ -55,62 +53,82 @@ module _ {b : List ℕ} {t : Table} {r : Record} (a : Asks b t) (h : InRange t.s
       ap₂ (λ (k y : ℕ). s' * k + y) k (step_slot live_flag b t a.laid p 0 wish q zero_is x d)
       ∙ sym (slot_by_state (states_of b) (sets_of b) (step_of live_flag (block_of b) (at (block_of b) p) s' wish))
 
+-- ---- the ends of the row
+
+module _ {b : List ℕ} {t : Table} {r : Record} (a : Asks b t) (h : InRange t.states t.sets r) where
+  abbrev here : ℕ
+  here = slot_of t.states t.sets r
+
+  -- at its first target nothing is written
+  pub row_begins : {from : ℕ} → from ≡ row_start b r.s → row_to live_flag b here from ≡ []
+  row_begins e = row_to_first live_flag b here _ (from_is a h e)
+
+  -- and after its last one all of it
+  module _ {from to : ℕ} (ef : from ≡ row_start b r.s) (et : to ≡ row_start b (r.s + 1)) where
+    pub row_ends : {i : ℕ} → (from ≤ to → i ≤ to) → to ≤ i → row_to live_flag b here i ≡ row_of live_flag b here
+    row_ends l m =
+        let u = from_is a h ef in
+        let v = to_is a h et in
+        let w = row_in a h in
+        row_to_last live_flag b here _ (grind arith)
+
 -- ---- target i of the row
 
--- When target i comes: x and y are the slots along it, of the step that saves and of the other one, and what slot p leads to along the targets before it
--- is written from `at` on, up to `end`.
-pub record Along (b w₀ : List ℕ) (t : Table) (r : Record) (at : ℕ) (w : List ℕ) (i end x y : ℕ) : Type 0 where
+-- When target i comes, which is the state s': x and y are the slots along it, of the step that saves and of the other one, and what the slot leads to
+-- along the targets before it is written from `at` on, up to `end`.
+pub record Along (b w₀ : List ℕ) (t : Table) (r : Record) (at : ℕ) (w : List ℕ) (i end s' x y : ℕ) : Type 0 where
   pub asks : Asks b t
   pub r_in : InRange t.states t.sets r
   pub from : from_of b (slot_of t.states t.sets r) ≤ i
   pub to : i < to_of b (slot_of t.states t.sets r)
-  pub x_is : x ≡ next_of live_flag b (slot_of t.states t.sets r) (target b i) true
-  pub y_is : y ≡ next_of live_flag b (slot_of t.states t.sets r) (target b i) false
+  pub target_is : s' ≡ target b i
+  pub x_is : x ≡ next_of live_flag b (slot_of t.states t.sets r) s' true
+  pub y_is : y ≡ next_of live_flag b (slot_of t.states t.sets r) s' false
   pub room : at + 4 * length (row_of live_flag b (slot_of t.states t.sets r)) ≤ length w₀
   pub end_is : end ≡ at + 4 * length (row_to live_flag b (slot_of t.states t.sets r) i)
   pub written : w ≡ placed at (little_endian (row_to live_flag b (slot_of t.states t.sets r) i)) w₀
   pub same_length : length w ≡ length w₀
 
-module _ {b w₀ : List ℕ} {t : Table} {r : Record} {at : ℕ} {w : List ℕ} {i end x y : ℕ} (k : Along b w₀ t r at w i end x y) where
+module _ {b w₀ : List ℕ} {t : Table} {r : Record} {at : ℕ} {w : List ℕ} {i end s' x y : ℕ} (k : Along b w₀ t r at w i end s' x y) where
   abbrev q : ℕ
   q = slot_of t.states t.sets r
 
-  edge : (block_of b).edge (state_of b q) (target b i) ≡ true
-  edge = row_edge b k.asks.formed (state_of b q) (state_in b q (slot_in k.asks k.r_in)) i k.from k.to
-
   -- both slots are small
+  edge : (block_of b).edge (state_of b q) s' ≡ true
+  edge = ap ((block_of b).edge (state_of b q)) k.target_is ∙ row_edge b k.asks.formed (state_of b q) (state_in b q (slot_in k.asks k.r_in)) i k.from k.to
+
   pub x_small : x < 4294967295
-  x_small = omega (arith, k.x_is, next_in live_flag b k.asks.formed q (target b i) true edge, slots_few b k.asks.formed)
+  x_small = omega (arith, k.x_is, next_in live_flag b k.asks.formed q s' true edge, slots_few b k.asks.formed)
 
   pub y_small : y < 4294967295
-  y_small = omega (arith, k.y_is, next_in live_flag b k.asks.formed q (target b i) false edge, slots_few b k.asks.formed)
+  y_small = omega (arith, k.y_is, next_in live_flag b k.asks.formed q s' false edge, slots_few b k.asks.formed)
 
-  -- there is room for what slot p leads to along target i
+  -- there is room for what the slot leads to along target i
+  next_is : row_to live_flag b q (i + 1) ≡ row_to live_flag b q i ++ along_of live_flag b q s'
+  next_is = row_to_next live_flag b q i k.from ∙ ap (λ (s : ℕ). row_to live_flag b q i ++ along_of live_flag b q s) (sym k.target_is)
+
+  next_length : length (row_to live_flag b q (i + 1)) ≡ length (row_to live_flag b q i) + length (along_of live_flag b q s')
+  next_length = ap length next_is ∙ length-append (row_to live_flag b q i) (along_of live_flag b q s')
+
   next_room : at + 4 * length (row_to live_flag b q (i + 1)) ≤ length w₀
   next_room = omega (arith, k.room, row_to_most live_flag b q (i + 1) (omega (arith, k.from)) (omega (arith, k.to)))
 
-  next_length : length (row_to live_flag b q (i + 1)) ≡ length (row_to live_flag b q i) + length (along_of live_flag b q (target b i))
-  next_length = ap length (row_to_next live_flag b q i k.from) ∙ length-append (row_to live_flag b q i) (along_of live_flag b q (target b i))
-
-  along_room : end + 4 * length (along_of live_flag b q (target b i)) ≤ length w
-  along_room = omega (arith, next_room, next_length, k.end_is, k.same_length)
-
   pub x_room : end + 4 ≤ length w
-  x_room = omega (arith, along_room)
+  x_room = omega (arith, next_room, next_length, k.end_is, k.same_length)
 
-  -- once it is written, target i is among those before
-  on : {xs w' : List ℕ} → xs ≡ along_of live_flag b q (target b i) → w' ≡ placed end (little_endian xs) w → w' ≡ placed at (little_endian (row_to live_flag b q (i + 1))) w₀
+  -- once that is written, target i is among those before
+  on : {xs w' : List ℕ} → xs ≡ along_of live_flag b q s' → w' ≡ placed end (little_endian xs) w → w' ≡ placed at (little_endian (row_to live_flag b q (i + 1))) w₀
   on {xs} e d =
       little_next at end (row_to live_flag b q i) xs w₀ k.written d k.end_is (omega (arith, next_room, next_length))
-      ∙ ap (λ (l : List ℕ). placed at (little_endian l) w₀) (ap (λ (l : List ℕ). row_to live_flag b q i ++ l) e ∙ sym (row_to_next live_flag b q i k.from))
+      ∙ ap (λ (l : List ℕ). placed at (little_endian l) w₀) (ap (λ (l : List ℕ). row_to live_flag b q i ++ l) e ∙ sym next_is)
 
   module _ {w' : List ℕ} (d : w' ≡ placed end (little_endian (x ∷ [])) w) where
-    -- where a state is saved, that is x alone
+    -- where a state is saved, it is x alone
     module _ (h : r.t ≢ t.states) where
-      one_is : x ∷ [] ≡ along_of live_flag b q (target b i)
+      one_is : x ∷ [] ≡ along_of live_flag b q s'
       one_is =
           let u = sym (ne_eqb r.t t.states h) ∙ unsaved_is k.asks k.r_in in
-          ap₂ (λ (x : ℕ) (u : Bool). x ∷ cond u (next_of live_flag b q (target b i) false ∷ []) []) k.x_is u
+          ap₂ (λ (x : ℕ) (u : Bool). x ∷ cond u (next_of live_flag b q s' false ∷ []) []) k.x_is u
 
       pub one_end : end + 4 ≡ at + 4 * length (row_to live_flag b q (i + 1))
       one_end = omega (arith, k.end_is, next_length, ap length one_is)
@@ -120,51 +138,16 @@ module _ {b w₀ : List ℕ} {t : Table} {r : Record} {at : ℕ} {w : List ℕ} 
 
     -- and where nothing is, x and y
     module _ (h : r.t ≡ t.states) where
-      both_are : x ∷ y ∷ [] ≡ along_of live_flag b q (target b i)
+      both_are : x ∷ y ∷ [] ≡ along_of live_flag b q s'
       both_are =
           let u = sym (eq-eqb r.t t.states h) ∙ unsaved_is k.asks k.r_in in
-          ap (λ (y : ℕ). x ∷ y ∷ []) k.y_is ∙ ap₂ (λ (x : ℕ) (u : Bool). x ∷ cond u (next_of live_flag b q (target b i) false ∷ []) []) k.x_is u
-
-      pub y_room : end + 4 + 4 ≤ length w'
-      y_room = rw d (omega (arith, along_room, ap length both_are, little_length end (x ∷ []) w x_room))
+          ap (λ (y : ℕ). x ∷ y ∷ []) k.y_is ∙ ap₂ (λ (x : ℕ) (u : Bool). x ∷ cond u (next_of live_flag b q s' false ∷ []) []) k.x_is u
 
       pub both_end : end + 4 + 4 ≡ at + 4 * length (row_to live_flag b q (i + 1))
       both_end = omega (arith, k.end_is, next_length, ap length both_are)
 
+      pub y_room : end + 4 + 4 ≤ length w'
+      y_room = rw d (omega (arith, both_end, next_room, k.same_length, little_length end (x ∷ []) w x_room))
+
       pub both_written : {w'' : List ℕ} → w'' ≡ placed (end + 4) (little_endian (y ∷ [])) w' → w'' ≡ placed at (little_endian (row_to live_flag b q (i + 1))) w₀
       both_written d' = on both_are (little_next end (end + 4) (x ∷ []) (y ∷ []) w d d' (omega arith) x_room)
-
--- what the code computed gives that
-pub along : {b w₀ : List ℕ} {t : Table} {r : Record} {goal : Bool} {fair each x y : ℕ} {q q' : Record} {at : ℕ} {w : List ℕ} {from to i end s' : ℕ}
-    → Asks b t → InRange t.states t.sets r → goal ≡ (block_of b).goal r.s → fair ≡ (block_of b).fair r.s
-    → StepSays r t.states goal fair 0 true q → StepSays r t.states goal fair 0 false q' → x ≡ slot_of t.states t.sets q → y ≡ slot_of t.states t.sets q'
-    → each ≡ 1 * (t.states + 1) * 2 ^ (t.sets + 1) → from ≡ row_start b r.s → to ≡ row_start b (r.s + 1) → from ≤ i → i < to → s' ≡ target b i
-    → at + 4 * length (row_of live_flag b (slot_of t.states t.sets r)) ≤ length w₀ → end ≡ at + 4 * length (row_to live_flag b (slot_of t.states t.sets r) i)
-    → w ≡ placed at (little_endian (row_to live_flag b (slot_of t.states t.sets r) i)) w₀ → length w ≡ length w₀
-    → Along b w₀ t r at w i end (s' * each + x) (s' * each + y)
-along {b} {t = t} {r} {each = each} {x} {y} {i = i} a h eg ef says says' d d' e ea eb l m k room is written same =
-    let n : ℕ = slot_of t.states t.sets r in
-    let slot_at = λ (z : ℕ) (wish : Bool) (e : (s' : ℕ) → s' * each + z ≡ next_of live_flag b n s' wish). ap (λ (s : ℕ). s * each + z) k ∙ e (target b i) in
-    record {
-      asks = a;
-      r_in = h;
-      from = omega (arith, from_is a h ea);
-      to = omega (arith, to_is a h eb);
-      x_is = slot_at x true (along_slot a h eg ef true says d e);
-      y_is = slot_at y false (along_slot a h eg ef false says' d' e);
-      room = room;
-      end_is = is;
-      written = written;
-      same_length = same;
-    }
-
--- at the first target nothing is written, and after the last one the whole row
-module _ {b : List ℕ} {t : Table} {r : Record} (a : Asks b t) (h : InRange t.states t.sets r) {from to : ℕ} (ea : from ≡ row_start b r.s) (eb : to ≡ row_start b (r.s + 1)) where
-  pub row_begins : row_to live_flag b (slot_of t.states t.sets r) from ≡ []
-  row_begins = row_to_first live_flag b (slot_of t.states t.sets r) from (from_is a h ea)
-
-  pub row_ends : {i : ℕ} → (from ≤ to → i ≤ to) → to ≤ i → row_to live_flag b (slot_of t.states t.sets r) i ≡ row_of live_flag b (slot_of t.states t.sets r)
-  row_ends {i} l m = row_to_last live_flag b (slot_of t.states t.sets r) i (let u = from_is a h ea in let v = to_is a h eb in let w = row_in a h in grind arith)
-
-  pub target_in : {i : ℕ} → i < to → TargetInside b t i
-  target_in {i} l = target_inside b t a.laid i (omega (arith, to_is a h eb, row_in a h))

@@ -87,4 +87,3 @@ module _ (R : Flag) (b : List ℕ) (p i : ℕ) (h : from_of b p ≤ i) where
   row_to_next =
       along_more R b p (i - from_of b p) (from_of b p) 1 (i + 1 - from_of b p) i (omega arith) (omega arith)
       ∙ ap (λ (l : List ℕ). row_to R b p i ++ l) (append-nil (along_of R b p (target b i)))
-
