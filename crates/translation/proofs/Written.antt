@@ -1,7 +1,7 @@
 -- Laws of specs/Written.antt. Assumes nothing.
-use Rattle.std.specs.Prelude.{◌≡◌, Bool, List, [], ◌∷◌, ◌++◌, ℕ, ◌+◌}
+use Rattle.std.specs.Prelude.{◌≡◌, Bool, List, [], ◌∷◌, ◌++◌, ℕ, ◌+◌, Ok, Err}
 use Rattle.std.proofs.Math.Path.{refl, ap, sym}
-use Rattle.std.proofs.Common.{◌∙◌, true≢false}
+use Rattle.std.proofs.Common.{◌∙◌}
 use Rattle.std.proofs.Math.Bool.{true, false}
 use Rattle.std.proofs.Math.Option.{Option, none, some}
 use native.Mathlib.Omega.{arith}
@@ -15,7 +15,7 @@ use Rattle.table.specs.Given.{given, first_given}
 use Rattle.table.specs.WellFormed.{WellFormed}
 use Rattle.table.proofs.WellFormed.{well_formed}
 use Rattle.table.specs.declared.Opened.{Opened}
-use Rattle.table.specs.declared.Opened.TheVariants.{Accepted, Refused as TableRefused}
+use Rattle.table.specs.declared.Opened.TheVariants.{Accepted, Refused}
 use Rattle.table.specs.declared.refusal.Refusal.{Refusal}
 use Rattle.table.specs.declared.refusal.Refusal.TheVariants.{ShortOutput}
 use Rattle.writing.specs.Placed.{placed}
@@ -24,38 +24,27 @@ use Rattle.translation.proofs.Counts.{length_file}
 use Rattle.translation.specs.Demand3.{Translates}
 use Rattle.translation.proofs.Demand3.{translates_live}
 use Rattle.translation.specs.Translated.{size_of, translate_lines, refusal_of, TranslateFor, TranslateSays}
-use Rattle.translation.specs.declared.Answer.TheVariants.{Written, Refused}
 use Rattle.translation.specs.Written.{WrittenSays}
 
--- a refusal writes nothing
-refused_not_written : (why : Refusal) (size : ℕ) → Written size ≡ Refused why → ⊥
-refused_not_written why size e = true≢false cc
-
-same_size : (n m : ℕ) → Written n ≡ Written m → n ≡ m
-same_size n m e = cc
-
-same_refusal : (x y : Refusal) → Refused x ≡ Refused y → x ≡ y
-same_refusal x y e = cc
-
 module _ (b out : List ℕ) (size : ℕ) (out' : List ℕ) where
-  pub written_says : TranslateSays b out (Written size) out' → WrittenSays b out size out'
+  pub written_says : TranslateSays b out (Ok size) out' → WrittenSays b out size out'
   unfolding TranslateSays refusal_of translate_lines placed
   written_says = go (open_of b) refl
     where
       lines : WellFormed b → (short : Bool) → ltb (length out) (size_of b) ≡ short → refusal_of b out ≡ first_given (given short ShortOutput ∷ [])
-          → TranslateFor (first_given (given short ShortOutput ∷ [])) b out (Written size) out' → WrittenSays b out size out'
-      lines f true e r (w, d) = absurd (refused_not_written ShortOutput size w)
+          → TranslateFor (first_given (given short ShortOutput ∷ [])) b out (Ok size) out' → WrittenSays b out size out'
+      lines f true e r (w, d) = absurd (cc)
       lines f false e r (w, d) =
-          let l : size ≡ size_of b = same_size size (size_of b) w in
+          let l : size ≡ size_of b = cc in
           let k = length_file live_flag b f in
           let z : size_of b ≡ 0 + length (file_of live_flag b) = omega arith in
           record { sound = f; given = r; size_is = l ∙ sym k; room = omega (arith, ltb-false (length out) (size_of b) e); has = d ∙ ap (λ (k : ℕ). file_of live_flag b ++ drop k out) z }
 
-      go : (x : Opened) → open_of b ≡ x → TranslateSays b out (Written size) out' → WrittenSays b out size out'
-      go (TableRefused why) o h = absurd (refused_not_written why size (rw o at h).0)
+      go : (x : Opened) → open_of b ≡ x → TranslateSays b out (Ok size) out' → WrittenSays b out size out'
+      go (Refused why) o h = let (w, d) = rw o at h in absurd (cc)
       go (Accepted t) o h = lines (well_formed b t o) (ltb (length out) (size_of b)) refl (rw o) (rw o at h)
 
-  pub written_translates : TranslateSays b out (Written size) out' → Translates b (take size out')
+  pub written_translates : TranslateSays b out (Ok size) out' → Translates b (take size out')
   unfolding placed
   written_translates h =
       let s = written_says h in
@@ -65,10 +54,10 @@ module _ (b out : List ℕ) (size : ℕ) (out' : List ℕ) where
       rw is (translates_live b s.sound)
 
 -- a refusal leaves the output as it was
-pub refused_leaves : (b out : List ℕ) (why : Refusal) (out' : List ℕ) → TranslateSays b out (Refused why) out' → (refusal_of b out ≡ some why) × (out' ≡ out)
+pub refused_leaves : (b out : List ℕ) (why : Refusal) (out' : List ℕ) → TranslateSays b out (Err why) out' → (refusal_of b out ≡ some why) × (out' ≡ out)
 unfolding TranslateSays
 refused_leaves b out why out' h = go (refusal_of b out) refl h
   where
-    go : (o : Option Refusal) → refusal_of b out ≡ o → TranslateFor o b out (Refused why) out' → (refusal_of b out ≡ some why) × (out' ≡ out)
-    go none e (r, d) = absurd (refused_not_written why (size_of b) (sym r))
-    go (some why') e (r, d) = (e ∙ ap some (same_refusal why' why (sym r)), d)
+    go : (o : Option Refusal) → refusal_of b out ≡ o → TranslateFor o b out (Err why) out' → (refusal_of b out ≡ some why) × (out' ≡ out)
+    go none e (r, d) = absurd (cc)
+    go (some why') e (r, d) = (cc, d)

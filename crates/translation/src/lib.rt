@@ -10,20 +10,13 @@ ghost use Rattle.translation.specs.Translated.{TranslateSays};
 
 use table::{Opened, Refusal};
 
-// What a translation answers: how many bytes were written, or why it is refused.
-#[derive(Clone, Copy)]
-pub enum Answer {
-    Written(usize),
-    Refused(Refusal),
-}
-
-// Translates the table in the bytes into the output, where it has room.
-pub fn translate(bytes: &[u8], out: &mut [u8]) -> Answer
+// Translates the table in the bytes into the output, where it has room, and answers how many bytes were written.
+pub fn translate(bytes: &[u8], out: &mut [u8]) -> Result<usize, Refusal>
     ensures { TranslateSays bytes.now out.old result out.new }
 {
     let answer = opening::open(bytes);
     let Opened::Accepted(t) = answer else {
-        return Answer::Refused(opening::why(answer));
+        return Err(opening::why(answer));
     };
     let slots = recorder::slot_count(t.states, t.sets);
     let edges = quote::edge_count(t.states, t.edges, t.sets);
@@ -31,11 +24,11 @@ pub fn translate(bytes: &[u8], out: &mut [u8]) -> Answer
     let marks = targets + 4 * edges;
     let size = marks + slots;
     if out.len() < size {
-        return Answer::Refused(Refusal::ShortOutput);
+        return Err(Refusal::ShortOutput);
     }
     header::write_header(&mut out[0..28], slots, edges);
     rows::write_rows(bytes, t, &mut out[28..targets], slots);
     targets::write_targets(bytes, t, &mut out[targets..marks], slots);
-    marks::write_marks(bytes, t, &mut out[marks..size], slots);
-    Answer::Written(size)
+    marks::write_marks(bytes, t, &mut out[marks..size]);
+    Ok(size)
 }

@@ -1,113 +1,65 @@
--- The table is opened and taken, the code goes down line 11, and then it lends each part of the output to
--- its writer.
-use mathlib.Core.Path.{◌≡◌, sym, ap₂, ◌∙◌}
-use mathlib.Core.List.{List}
-use Prim.Native.Nat.{ℕ, ◌+◌, ◌*◌, ◌≤◌}
-use native.Mathlib.Omega.{arith}
-use lib.ListN.{length}
-use lib.Seq.{length-take-le}
-use Rattle.recorder.specs.Flag.{live_flag}
-use Rattle.recorder.specs.Slots.{slot_count}
+-- The table is opened and taken, the code goes down line 11, and then it lends each part of the output to its writer.
+use Rattle.std.proofs.Common.{◌≡◌, sym, ◌∙◌, arith}
 use Rattle.table.specs.Open.{open_of}
-use Rattle.table.proofs.WellFormed.{well_formed, laid, why_is}
-use Rattle.table.specs.declared.Table.{Table}
 use Rattle.table.specs.declared.Opened.TheVariants.{Accepted}
-use Rattle.quote.specs.Sizes.{edge_count}
-use Rattle.translation.specs.Asks.{Asks}
-use Rattle.translation.proofs.Laws.{Counted, table_refused, short_output, translated, size_is, edges_counted, sizes_small, header_there, rows_room, rows_there, targets_room, targets_there, marks_room, marks_there}
+use Rattle.table.proofs.WellFormed.{laid, why_is}
+use Rattle.translation.proofs.Laws.{Counted, table_refused, asks, slots_are, sizes_small, too_short, targets_room, marks_room, translated}
 use Rattle.translation.proofs.translate.Goals as goal
+use Rattle.translation.proofs.translate.Goals.{In-Accepted, After-edge_count-edges}
 
--- the two sizes that the code computed are those of the table
-counted_of : {b : List ℕ} {t : Table} {S E : ℕ} → open_of b ≡ Accepted t → S ≡ slot_count t.states t.sets → E ≡ edge_count t.states t.edges t.sets → Counted b S E
-counted_of {b} {t} opened s e =
-    let l = laid b t opened in
-    record { formed = well_formed b t opened; slots_are = s ∙ ap₂ slot_count l.states_are l.sets_are; edges_are = edges_counted l e }
+opened : (c : In-Accepted) → open_of c.args.bytes.now ≡ Accepted c.in-Accepted.t
+opened c = sym c.open-answer.ensures ∙ c.in-Accepted.is
 
--- what the parts' writers ask
-asks_of : {b : List ℕ} {t : Table} {S E : ℕ} → open_of b ≡ Accepted t → Counted b S E → Asks b t S
-asks_of {b} {t} opened k = record { formed = k.formed; laid = laid b t opened; slots_are = k.slots_are }
+counted : (c : After-edge_count-edges) → Counted c.args.bytes.now c.in-Accepted.t c.slot_count-slots.result c.edge_count-edges.result
+counted c = record { opened = sym c.open-answer.ensures ∙ c.in-Accepted.is; slots_by = c.slot_count-slots.ensures; edges_by = c.edge_count-edges.ensures }
 
 pub returns-in_default : goal.returns-in_default
 returns-in_default c = table_refused _ _ _ (sym c.open-answer.ensures ∙ why_is _ _ _ c.in_default.is c.why.ensures)
 
 pub slot_count-slots-requires : goal.slot_count-slots-requires
-slot_count-slots-requires c =
-    let l = laid _ _ (sym c.open-answer.ensures ∙ c.in-Accepted.is) in
-    (l.states_to, omega (arith, l.sets_to))
+slot_count-slots-requires c = let l = laid _ _ (opened c) in (l.states_to, omega (arith, l.sets_to))
 
 pub edge_count-edges-requires : goal.edge_count-edges-requires
-edge_count-edges-requires c =
-    let l = laid _ _ (sym c.open-answer.ensures ∙ c.in-Accepted.is) in
-    (l.states_to, l.edges_to, omega (arith, l.sets_to))
+edge_count-edges-requires c = let l = laid _ _ (opened (goal.at.edge_count-edges-requires c).In-Accepted) in (l.states_to, l.edges_to, omega (arith, l.sets_to))
 
 pub overflow_mul-targets : goal.overflow_mul-targets
-overflow_mul-targets c =
-    let k = counted_of (sym c.open-answer.ensures ∙ c.in-Accepted.is) c.slot_count-slots.ensures c.edge_count-edges.ensures in
-    omega (arith, sizes_small k)
+overflow_mul-targets c = omega (arith, sizes_small (counted c))
 
 pub overflow_add-targets : goal.overflow_add-targets
-overflow_add-targets c =
-    let k = counted_of (sym c.open-answer.ensures ∙ c.in-Accepted.is) c.slot_count-slots.ensures c.edge_count-edges.ensures in
-    omega (arith, sizes_small k)
+overflow_add-targets c = omega (arith, sizes_small (counted c))
 
 pub overflow_mul-marks : goal.overflow_mul-marks
-overflow_mul-marks c =
-    let k = counted_of (sym c.open-answer.ensures ∙ c.in-Accepted.is) c.slot_count-slots.ensures c.edge_count-edges.ensures in
-    omega (arith, sizes_small k)
+overflow_mul-marks c = omega (arith, sizes_small (counted c))
 
 pub overflow_add-marks : goal.overflow_add-marks
-overflow_add-marks c =
-    let k = counted_of (sym c.open-answer.ensures ∙ c.in-Accepted.is) c.slot_count-slots.ensures c.edge_count-edges.ensures in
-    omega (arith, sizes_small k)
+overflow_add-marks c = omega (arith, sizes_small (counted c))
 
 pub overflow_add-size : goal.overflow_add-size
-overflow_add-size c =
-    let k = counted_of (sym c.open-answer.ensures ∙ c.in-Accepted.is) c.slot_count-slots.ensures c.edge_count-edges.ensures in
-    omega (arith, sizes_small k)
+overflow_add-size c = omega (arith, sizes_small (counted c))
 
 pub returns-then-out-size : goal.returns-then-out-size
-returns-then-out-size c =
-    let k = counted_of (sym c.open-answer.ensures ∙ c.in-Accepted.is) c.slot_count-slots.ensures c.edge_count-edges.ensures in
-    short_output _ _ _ (sym c.open-answer.ensures ∙ c.in-Accepted.is) (omega (arith, c.if-out-size.true, size_is k))
+returns-then-out-size c = too_short (counted (goal.at.returns-then-out-size c).After-edge_count-edges) c.args.out.now c.if-out-size.true
 
-pub write_header-requires : goal.write_header-requires
-write_header-requires c =
-    let k = counted_of (sym c.open-answer.ensures ∙ c.in-Accepted.is) c.slot_count-slots.ensures c.edge_count-edges.ensures in
-    record {
-      part_len = length-take-le 28 c.args.out.now (omega (arith, c.if-out-size.false));
-      edges_bound = omega (arith, sizes_small k);
-    }
+pub write_header-requires-clause-edges_bound : goal.write_header-requires-clause-edges_bound
+write_header-requires-clause-edges_bound c = omega (arith, sizes_small (counted (goal.at.write_header-requires-clause-edges_bound c).After-edge_count-edges))
 
-pub write_rows-requires : goal.write_rows-requires
-write_rows-requires c =
-    let k = counted_of (sym c.open-answer.ensures ∙ c.in-Accepted.is) c.slot_count-slots.ensures c.edge_count-edges.ensures in
-    let room : 32 + 4 * c.slot_count-slots.result + 4 * c.edge_count-edges.result + c.slot_count-slots.result ≤ length c.args.out.now = omega (arith, c.if-out-size.false) in
-    let is₁ = header_there live_flag k c.args.out.now room c.write_header.ensures in
-    record { asks = asks_of (sym c.open-answer.ensures ∙ c.in-Accepted.is) k; part_len = rows_room live_flag k c.args.out.now room is₁ }
+pub write_rows-requires-clause-asks : goal.write_rows-requires-clause-asks
+write_rows-requires-clause-asks c = asks (counted (goal.at.write_rows-requires-clause-asks c).After-edge_count-edges)
+
+pub write_rows-requires-clause-slots_are : goal.write_rows-requires-clause-slots_are
+write_rows-requires-clause-slots_are c = slots_are (counted (goal.at.write_rows-requires-clause-slots_are c).After-edge_count-edges)
 
 pub write_targets-requires : goal.write_targets-requires
 write_targets-requires c =
-    let k = counted_of (sym c.open-answer.ensures ∙ c.in-Accepted.is) c.slot_count-slots.ensures c.edge_count-edges.ensures in
-    let room : 32 + 4 * c.slot_count-slots.result + 4 * c.edge_count-edges.result + c.slot_count-slots.result ≤ length c.args.out.now = omega (arith, c.if-out-size.false) in
-    let is₁ = header_there live_flag k c.args.out.now room c.write_header.ensures in
-    let is₂ = rows_there live_flag k c.args.out.now room is₁ c.write_rows.ensures in
-    record { asks = asks_of (sym c.open-answer.ensures ∙ c.in-Accepted.is) k; part_len = targets_room live_flag k c.args.out.now room is₂ }
+    let k = counted (goal.at.write_targets-requires c).After-edge_count-edges in
+    record { asks = asks k; slots_are = slots_are k; part_len = targets_room k c.args.out.now c.if-out-size.false c.write_header.ensures c.write_rows.ensures }
 
 pub write_marks-requires : goal.write_marks-requires
 write_marks-requires c =
-    let k = counted_of (sym c.open-answer.ensures ∙ c.in-Accepted.is) c.slot_count-slots.ensures c.edge_count-edges.ensures in
-    let room : 32 + 4 * c.slot_count-slots.result + 4 * c.edge_count-edges.result + c.slot_count-slots.result ≤ length c.args.out.now = omega (arith, c.if-out-size.false) in
-    let is₁ = header_there live_flag k c.args.out.now room c.write_header.ensures in
-    let is₂ = rows_there live_flag k c.args.out.now room is₁ c.write_rows.ensures in
-    let is₃ = targets_there live_flag k c.args.out.now room is₂ c.write_targets.ensures in
-    record { asks = asks_of (sym c.open-answer.ensures ∙ c.in-Accepted.is) k; part_len = marks_room live_flag k c.args.out.now room is₃ }
+    let k = counted (goal.at.write_marks-requires c).After-edge_count-edges in
+    record { asks = asks k; part_len = marks_room k c.args.out.now c.if-out-size.false c.write_header.ensures c.write_rows.ensures c.write_targets.ensures }
 
 pub returns : goal.returns
 returns c =
-    let k = counted_of (sym c.open-answer.ensures ∙ c.in-Accepted.is) c.slot_count-slots.ensures c.edge_count-edges.ensures in
-    let room : 32 + 4 * c.slot_count-slots.result + 4 * c.edge_count-edges.result + c.slot_count-slots.result ≤ length c.args.out.now = omega (arith, c.if-out-size.false) in
-    let is₁ = header_there live_flag k c.args.out.now room c.write_header.ensures in
-    let is₂ = rows_there live_flag k c.args.out.now room is₁ c.write_rows.ensures in
-    let is₃ = targets_there live_flag k c.args.out.now room is₂ c.write_targets.ensures in
-    let z = size_is k in
-    translated _ c.args.out.now _ (sym c.open-answer.ensures ∙ c.in-Accepted.is) (omega arith) _ z _ (marks_there live_flag k c.args.out.now room is₃ c.write_marks.ensures) k.formed
+    translated (counted (goal.at.returns c).After-edge_count-edges) c.args.out.now c.if-out-size.false c.write_header.ensures c.write_rows.ensures
+    c.write_targets.ensures c.write_marks.ensures

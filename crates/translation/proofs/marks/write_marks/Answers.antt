@@ -1,36 +1,31 @@
--- When slot p comes, its record is there and the marks of the slots below it
--- are written (`Marking`).
-use native.Mathlib.Omega.{arith}
+-- When slot p comes, its record is there and the marks of the slots before it are written.
+use Rattle.std.proofs.Common.{sym, arith}
 use Rattle.recorder.specs.Flag.{live_flag}
-use Rattle.translation.proofs.Asks.{record_range, next_is}
-use Rattle.translation.proofs.Writing.{marking_begins, marking_on, marking_ends}
+use Rattle.writing.specs.File.{listed}
+use Rattle.writing.proofs.Placed.{placed_none}
+use Rattle.translation.specs.File.{slot_mark}
+use Rattle.translation.proofs.Asks.{record_range, slot_is, next_is}
+use Rattle.translation.proofs.Writing.{byte_on, bytes_end}
 use Rattle.translation.proofs.marks.write_marks.Goals as goal
 
-pub of_slot-r-requires : goal.of_slot-r-requires
-of_slot-r-requires c = let l = c.requires.asks.laid in (l.states_to, omega (arith, l.sets_to))
-
 pub loop-p-init : goal.loop-p-init
-loop-p-init c = record { here = c.of_slot-r.ensures; written = marking_begins live_flag c.args.bytes.now c.args.part.now c.args.slots c.requires.part_len }
+unfolding listed
+loop-p-init c = record { record_is = c.of_slot-r.ensures; written = placed_none 0 c.args.part.now }
 
-pub mark-requires : goal.mark-requires
-mark-requires c =
-    record {
-      asks = c.requires.asks;
-      p_lt_slots = (c.loop-p-test.true, c.loop-p.invariant.here);
-    }
+pub mark-requires-clause-r_in : goal.mark-requires-clause-r_in
+mark-requires-clause-r_in c = (record_range c.requires.asks (omega arith) c.loop-p.invariant.record_is).2
 
-pub bounds-part-p : goal.bounds-part-p
-bounds-part-p c = let v = c.loop-p.invariant.written in omega (arith, c.loop-p-test.true, v.room, v.same_length)
+pub mark-requires-clause-p_is : goal.mark-requires-clause-p_is
+mark-requires-clause-p_is c = sym (slot_is c.requires.asks (omega arith) c.loop-p.invariant.record_is)
 
 pub following-r-requires : goal.following-r-requires
-following-r-requires c = record_range c.requires.asks (c.loop-p-test.true, c.loop-p.invariant.here)
+following-r-requires c = record_range c.requires.asks (omega arith) c.loop-p.invariant.record_is
 
 pub loop-p-preserved : goal.loop-p-preserved
-loop-p-preserved c =
-    record {
-      here = next_is c.requires.asks (c.loop-p-test.true, c.loop-p.invariant.here) c.following-r.ensures;
-      written = marking_on c.loop-p.invariant.written c.loop-p-test.true c.mark.ensures;
-    }
+loop-p-preserved c = record {
+  record_is = next_is c.requires.asks (omega arith) c.loop-p.invariant.record_is c.following-r.ensures;
+  written = byte_on (slot_mark live_flag c.args.bytes.now) c.args.part.now c.mark.ensures c.loop-p.invariant.written (omega arith);
+}
 
 pub returns : goal.returns
-returns c = marking_ends c.loop-p.invariant.written c.loop-p-test.false
+returns c = bytes_end (slot_mark live_flag c.args.bytes.now) c.args.part.now _ _ c.loop-p.invariant.written (omega arith) c.requires.part_len

@@ -1,56 +1,36 @@
--- When slot p comes, its record is there, the row starts below it are written, and
--- sum is where its own row starts (`Starting`).
-use native.Mathlib.Omega.{arith}
+-- When slot p comes, its record is there, the row starts before it are written, and sum is where its own row starts.
+use Rattle.std.proofs.Common.{suc, ◌+◌, refl, arith}
 use Rattle.recorder.specs.Flag.{live_flag}
-use Rattle.translation.proofs.Writing.{starting_begins, starting_on, starting_ends}
-use Rattle.translation.proofs.Asks.{slots_small, starts_small, record_range, next_is}
+use Rattle.writing.specs.File.{listed, join_to}
+use Rattle.writing.proofs.Placed.{placed_none}
+use Rattle.translation.specs.File.{start_of_row}
+use Rattle.translation.proofs.Asks.{record_range, next_is, next_start, starts_small}
+use Rattle.translation.proofs.Writing.{number_on, numbers_end}
 use Rattle.translation.proofs.rows.write_rows.Goals as goal
 
-pub of_slot-r-requires : goal.of_slot-r-requires
-of_slot-r-requires c = let l = c.requires.asks.laid in (l.states_to, omega (arith, l.sets_to))
-
 pub loop-p-init : goal.loop-p-init
-loop-p-init c = record { here = c.of_slot-r.ensures; written = starting_begins live_flag c.args.bytes.now c.args.part.now c.args.slots c.requires.part_len }
+unfolding listed join_to
+loop-p-init c = record { record_is = c.of_slot-r.ensures; sum_is = refl; written = placed_none 0 c.args.part.now }
 
-pub overflow_mul-p : goal.overflow_mul-p
-overflow_mul-p c = omega (arith, c.loop-p-test.true, slots_small c.requires.asks)
-
-pub put-requires : goal.put-requires
-put-requires c = let v = c.loop-p.invariant.written in omega (arith, c.loop-p-test.true, v.room, v.same_length)
-
-pub row_length-sum-requires : goal.row_length-sum-requires
-row_length-sum-requires c =
-    record {
-      asks = c.requires.asks;
-      p_lt_slots = (c.loop-p-test.true, c.loop-p.invariant.here);
-    }
+pub row_length-sum-requires-clause-r_in : goal.row_length-sum-requires-clause-r_in
+row_length-sum-requires-clause-r_in c = (record_range c.requires.asks (omega arith) c.loop-p.invariant.record_is).2
 
 pub overflow_add-sum : goal.overflow_add-sum
 overflow_add-sum c =
-    let v = starting_on c.loop-p.invariant.written c.put.ensures c.loop-p-test.true c.row_length-sum.ensures in
-    omega (arith, v.sum_is, starts_small live_flag c.requires.asks v.to)
+    let next = next_start c.requires.asks (omega arith) c.loop-p.invariant.record_is live_flag in
+    omega (arith, starts_small live_flag c.requires.asks (c.loop-p.p + 1) (omega arith))
 
 pub following-r-requires : goal.following-r-requires
-following-r-requires c = record_range c.requires.asks (c.loop-p-test.true, c.loop-p.invariant.here)
-
-pub overflow_add-p : goal.overflow_add-p
-overflow_add-p c = omega (arith, c.loop-p-test.true, slots_small c.requires.asks)
-
-pub loop-p-smaller : goal.loop-p-smaller
-loop-p-smaller c = omega (arith, c.loop-p-test.true)
+following-r-requires c = record_range c.requires.asks (omega arith) c.loop-p.invariant.record_is
 
 pub loop-p-preserved : goal.loop-p-preserved
-loop-p-preserved c =
-    record {
-      here = next_is c.requires.asks (c.loop-p-test.true, c.loop-p.invariant.here) c.following-r.ensures;
-      written = starting_on c.loop-p.invariant.written c.put.ensures c.loop-p-test.true c.row_length-sum.ensures;
-    }
-
-pub overflow_mul-slots : goal.overflow_mul-slots
-overflow_mul-slots c = omega (arith, slots_small c.requires.asks)
-
-pub put-requires-2 : goal.put-requires-2
-put-requires-2 c = let v = c.loop-p.invariant.written in omega (arith, v.room, v.same_length)
+loop-p-preserved c = record {
+  record_is = next_is c.requires.asks (omega arith) c.loop-p.invariant.record_is c.following-r.ensures;
+  sum_is = omega (arith, next_start c.requires.asks (omega arith) c.loop-p.invariant.record_is live_flag);
+  written = number_on (start_of_row live_flag c.args.bytes.now) c.args.part.now c.loop-p.invariant.sum_is c.loop-p.invariant.written c.put.ensures refl (omega arith);
+}
 
 pub returns : goal.returns
-returns c = starting_ends c.loop-p.invariant.written c.put-2.ensures c.loop-p-test.false
+returns c =
+    let all = number_on (start_of_row live_flag c.args.bytes.now) c.args.part.now c.loop-p.invariant.sum_is c.loop-p.invariant.written c.put-2.ensures (omega arith) (omega arith) in
+    numbers_end _ c.args.part.now (c.loop-p.p + 1) (suc c.args.slots) all (omega arith) c.requires.part_len

@@ -1,40 +1,38 @@
--- When slot p comes, its record is there and the rows of the slots below it
--- are written (`Targeting`).
-use native.Mathlib.Omega.{arith}
+-- When slot p comes, where p is the counter, its record is there and the rows of the slots before it are written.
+use Rattle.std.proofs.Common.{◌+◌, refl, arith}
 use Rattle.recorder.specs.Flag.{live_flag}
-use Rattle.translation.proofs.Asks.{record_range, next_is}
-use Rattle.translation.proofs.Writing.{targeting_begins, targeting_room, targeting_on, targeting_ends}
+use Rattle.writing.specs.File.{join_to}
+use Rattle.writing.proofs.Placed.{placed_none}
+use Rattle.translation.proofs.Asks.{record_range, row_is, next_is, next_start}
+use Rattle.translation.proofs.Counts.{starts_rise}
+use Rattle.translation.proofs.Writing.{targets_on, targets_end}
 use Rattle.translation.proofs.targets.write_targets.Goals as goal
 
-pub of_slot-r-requires : goal.of_slot-r-requires
-of_slot-r-requires c = let l = c.requires.asks.laid in (l.states_to, omega (arith, l.sets_to))
+pub loop-init : goal.loop-init
+unfolding join_to
+loop-init c = record { record_is = c.of_slot-r.ensures; at_is = refl; written = placed_none 0 c.args.part.now }
 
-pub loop-p-init : goal.loop-p-init
-loop-p-init c = record { here = c.of_slot-r.ensures; written = targeting_begins live_flag c.args.bytes.now c.args.part.now c.args.slots c.requires.part_len }
+pub write_row-at-requires-clause-r_in : goal.write_row-at-requires-clause-r_in
+write_row-at-requires-clause-r_in c = (record_range c.requires.asks (omega arith) c.loop.invariant.record_is).2
 
-pub write_row-at-requires : goal.write_row-at-requires
-write_row-at-requires c =
-    record {
-      asks = c.requires.asks;
-      p_lt_slots = (c.loop-p-test.true, c.loop-p.invariant.here);
-      p_in_bounds = targeting_room c.loop-p.invariant.written c.loop-p-test.true;
-    }
+pub write_row-at-requires-clause-room : goal.write_row-at-requires-clause-room
+write_row-at-requires-clause-room c =
+    let next = next_start c.requires.asks (omega arith) c.loop.invariant.record_is live_flag in
+    omega (arith, starts_rise live_flag c.args.bytes.now (c.loop.counter + 1) c.args.slots (omega arith))
 
 pub following-r-requires : goal.following-r-requires
-following-r-requires c = record_range c.requires.asks (c.loop-p-test.true, c.loop-p.invariant.here)
+following-r-requires c = record_range c.requires.asks (omega arith) c.loop.invariant.record_is
 
-pub overflow_add-p : goal.overflow_add-p
-overflow_add-p c = omega (arith, c.loop-p-test.true, c.ranges)
-
-pub loop-p-smaller : goal.loop-p-smaller
-loop-p-smaller c = omega (arith, c.loop-p-test.true)
-
-pub loop-p-preserved : goal.loop-p-preserved
-loop-p-preserved c =
+pub loop-preserved : goal.loop-preserved
+loop-preserved c =
+    let row = row_is c.requires.asks (omega arith) c.loop.invariant.record_is live_flag in
+    let next = next_start c.requires.asks (omega arith) c.loop.invariant.record_is live_flag in
     record {
-      here = next_is c.requires.asks (c.loop-p-test.true, c.loop-p.invariant.here) c.following-r.ensures;
-      written = targeting_on c.loop-p.invariant.written c.loop-p-test.true c.write_row-at.ensures.value c.write_row-at.ensures.part_after;
+      record_is = next_is c.requires.asks (omega arith) c.loop.invariant.record_is c.following-r.ensures;
+      at_is = omega arith;
+      written = targets_on live_flag c.args.bytes.now c.args.part.now c.loop.counter c.loop.invariant.written (rw row at c.write_row-at.ensures.part_after) c.loop.invariant.at_is
+          (omega (arith, starts_rise live_flag c.args.bytes.now c.loop.counter c.args.slots (omega arith)));
     }
 
 pub returns : goal.returns
-returns c = targeting_ends c.loop-p.invariant.written c.loop-p-test.false
+returns c = targets_end live_flag c.args.bytes.now c.args.part.now _ _ c.loop.invariant.written (omega arith) c.requires.part_len
