@@ -1,11 +1,10 @@
 -- Laws of specs/Find.antt. Assumes nothing.
-use Rattle.std.specs.Prelude.{◌≡◌, refl, List, ◌++◌, ℕ, ◌-◌, ◌*◌, ◌≤◌, ◌<◌, length, drop, Option, Some, None}
-use Rattle.std.proofs.Common.{sym, ap, ap₂, ◌∙◌, arith}
+use Rattle.std.specs.Prelude.{◌≡◌, refl, List, ◌++◌, ℕ, ◌-◌, ◌*◌, ◌≤◌, ◌<◌, length, drop, Some, None}
+use Rattle.std.proofs.Common.{sym, ap, ◌∙◌, arith}
 use Rattle.order.proofs.Turn.{search_stops}
 use Rattle.order.specs.Word.{Word}
 use Rattle.recorder.specs.Flag.{Flag, live_flag, LassoBy}
 use Rattle.recorder.specs.Lasso.{Least}
-use Rattle.recorder.specs.Slots.{slot_count}
 use Rattle.recorder.proofs.Least.{least_by, least_of_block, least_live}
 use Rattle.recorder.proofs.SlotGraph.{slots_determined}
 use Rattle.table.specs.Layout.{states_of, sets_of}
@@ -24,7 +23,6 @@ use Rattle.search.proofs.Report.{Reports, lasso_reported}
 use Rattle.search.specs.Scan.{ScanAsks, Stopped, ScanSays}
 use Rattle.search.specs.Meet.{SameRest}
 use Rattle.search.specs.Starts.{StartsAsk, StartsSay}
-use Rattle.search.specs.declared.Lasso.{Lasso}
 use Rattle.search.specs.Find.{FindAsks, FindSays}
 
 -- the origins of a scan that stopped lead to a start
@@ -92,9 +90,6 @@ module _ {b : List ℕ} {t : Table} {S : ℕ} {work report : List ℕ} (a : Find
 
       -- it has len records
       module _ {len : ℕ} (is : (label : ℕ → ℕ) → len ≡ length (path_by label S w head)) where
-        pub counts_bound : (t.states ≤ 64) × (t.sets ≤ 8) × (S ≡ slot_count t.states t.sets)
-        counts_bound = (a.laid.states_to, omega (arith, a.laid.sets_to), a.slots_are ∙ ap₂ slot_count (sym a.laid.states_are) (sym a.laid.sets_are))
-
         pub len_fits : (len ≡ length path) × (len ≤ length report)
         len_fits = (is _, omega (arith, is (label_of t.states t.sets), path_to (label_of t.states t.sets) S w head path_climbs, a.report_room))
 

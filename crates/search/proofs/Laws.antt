@@ -6,12 +6,13 @@ use Rattle.std.proofs.Common.{sym, ap, ap₂, ◌∙◌, arith, lt-ltb, le-ltb}
 use Rattle.std.proofs.Math.Option.{Option as Maybe, none, some}
 use Rattle.recorder.specs.Block.{Block, Sound}
 use Rattle.recorder.proofs.Least.{least_of_block}
+use Rattle.recorder.specs.Slots.{slot_count}
 use Rattle.table.specs.Open.{open_of}
 use Rattle.table.specs.Given.{given, first_given}
 use Rattle.table.specs.InOrder.{end, ByTheList, position_after}
 use Rattle.table.proofs.InOrder.{line, by_the_list}
 use Rattle.table.specs.BlockOf.{block_of}
-use Rattle.table.proofs.WellFormed.{well_formed}
+use Rattle.table.proofs.WellFormed.{well_formed, laid}
 use Rattle.table.proofs.Sound.{sound}
 use Rattle.table.specs.declared.Table.{Table}
 use Rattle.table.specs.declared.Opened.{Opened}
@@ -19,7 +20,8 @@ use Rattle.table.specs.declared.Opened.TheVariants.{Accepted, Refused as TableRe
 use Rattle.table.specs.declared.refusal.Refusal.{Refusal}
 use Rattle.table.specs.declared.refusal.Refusal.TheVariants.{WrongMark, ShortWorkspace, ShortReport}
 use Rattle.table.specs.Recording.{slots_of}
-use Rattle.search.specs.Find.{FindSays}
+use Rattle.table.proofs.Recording.{slots_few}
+use Rattle.search.specs.Find.{FindAsks, FindSays}
 use Rattle.search.specs.Searched.{search_lines, refusal_of, AnswerSays, SearchFor, SearchSays}
 use Rattle.search.specs.declared.Lasso.{Lasso}
 
@@ -42,16 +44,31 @@ module _ (b work report : List ℕ) where
     unfolding refusal_of search_lines
     lines_are p q = rw o (ap₂ (λ (u v : Bool). first_given (given u ShortWorkspace ∷ given v ShortReport ∷ [])) p q)
 
-    pub short_workspace : length work < 2 * slots_of b → SearchSays b work report (Err ShortWorkspace) work report
-    short_workspace h = refused_says ShortWorkspace (lines_are (lt-ltb _ _ h) refl)
+    -- ---- along the code, which counts the slots of the table
+    pub counts_bound : (t.states ≤ 64) × (t.sets ≤ 8)
+    counts_bound = let l = laid _ _ o in (l.states_to, omega (arith, l.sets_to))
 
-    pub short_report : 2 * slots_of b ≤ length work → length report < slots_of b → SearchSays b work report (Err ShortReport) work report
-    short_report g h = refused_says ShortReport (lines_are (le-ltb _ _ g) (lt-ltb _ _ h))
+    module _ {S : ℕ} (count : S ≡ slot_count t.states t.sets) where
+      slots_are : S ≡ slots_of b
+      slots_are = let l = laid _ _ o in count ∙ ap₂ slot_count l.states_are l.sets_are
 
-    pub finds : 2 * slots_of b ≤ length work → slots_of b ≤ length report → (x : Option Lasso) (work' report' : List ℕ) → FindSays b work report x work' report'
-        → SearchSays b work report (Ok x) work' report'
-    unfolding SearchSays
-    finds g h x work' report' (s, e) = rw (lines_are (le-ltb _ _ g) (le-ltb _ _ h)) (x, refl, s, e)
+      pub slots_small : S < 4294967295
+      slots_small = omega (arith, slots_are, slots_few b (well_formed _ _ o))
+
+      pub short_workspace : length work < 2 * S → SearchSays b work report (Err ShortWorkspace) work report
+      short_workspace h = refused_says ShortWorkspace (lines_are (lt-ltb _ _ (omega (arith, slots_are))) refl)
+
+      module _ (g : 2 * S ≤ length work) where
+        pub short_report : length report < S → SearchSays b work report (Err ShortReport) work report
+        short_report h = refused_says ShortReport (lines_are (le-ltb _ _ (omega (arith, slots_are))) (lt-ltb _ _ (omega (arith, slots_are))))
+
+        module _ (h : S ≤ length report) where
+          pub find_asks : FindAsks b t S work report
+          find_asks = record { formed = well_formed _ _ o; laid = laid _ _ o; slots_are = slots_are; work_room = g; report_room = h }
+
+          pub finds : (x : Option Lasso) (work' report' : List ℕ) → FindSays b work report x work' report' → SearchSays b work report (Ok x) work' report'
+          unfolding SearchSays
+          finds x work' report' (s, e) = rw (lines_are (le-ltb _ _ (omega (arith, slots_are))) (le-ltb _ _ (omega (arith, slots_are)))) (x, refl, s, e)
 
 -- ---- its lines stand in the list's order, after the table's, and the first that is given is the refusal
 

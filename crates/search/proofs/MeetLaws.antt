@@ -16,6 +16,10 @@ asks_as p q a = rw (p, q) a
 pub says_as : {S S' : ℕ} {w : List ℕ} {tail x x' o r : ℕ} {w' : List ℕ} → S ≡ S' → x ≡ x' → MeetSays S w tail x o r w' → MeetSays S' w tail x' o r w'
 says_as p q m = rw (← p, ← q) m
 
+-- a slot that was not met leaves room in the queue
+pub room_to_meet : {S : ℕ} {w : List ℕ} {tail x o : ℕ} → MeetAsks S w tail x o → origin_at w x ≡ 0 → tail < S
+room_to_meet a new = room_left _ _ _ _ _ a.kept a.slot_in new a.origin_from
+
 pub rest_same : (S : ℕ) (w : List ℕ) → SameRest S w w
 rest_same S w = record { size = refl; rest = refl }
 

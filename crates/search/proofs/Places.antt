@@ -15,7 +15,7 @@ use Rattle.table.proofs.Inside.{row_inside, target_inside, mark_inside}
 use Rattle.table.specs.Layout.{row_start, target}
 use Rattle.table.specs.BlockOf.{block_of}
 use Rattle.table.specs.declared.Table.{Table}
-use Rattle.table.specs.Recording.{slots_of, graph_of, next_of, state_of, from_of, to_of}
+use Rattle.table.specs.Recording.{slots_of, graph_of, next_of, state_of, to_of}
 use Rattle.table.proofs.Recording.{block_states, block_sets, Unsaved, state_in, step_slot, step_range}
 use Rattle.table.proofs.Row.{row_to_lem}
 use Rattle.table.proofs.Sound.{sound}

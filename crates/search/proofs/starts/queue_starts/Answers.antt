@@ -1,6 +1,4 @@
 -- The laws of proofs/StartsLaws.antt say what meeting the slot of state s asks and gives.
-use Rattle.std.proofs.Common.{arith}
-use Rattle.table.proofs.Inside.{mark_inside}
 use Rattle.search.proofs.StartsLaws.{queueing_begins, queueing_passes, queueing_on, queueing_ends, record_fits, slot_fits}
 use Rattle.search.proofs.starts.queue_starts.Goals as goal
 use Rattle.search.proofs.starts.queue_starts.Goals.{then-is_start, else-is_start}
