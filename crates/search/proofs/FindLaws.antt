@@ -1,7 +1,6 @@
 -- Laws of specs/Find.antt. Assumes nothing.
-use Rattle.std.specs.Prelude.{◌≡◌, refl, List, ◌++◌, ℕ, ◌-◌, ◌*◌, length, drop}
+use Rattle.std.specs.Prelude.{◌≡◌, refl, List, ◌++◌, ℕ, ◌-◌, ◌*◌, ◌≤◌, ◌<◌, length, drop, Some, None}
 use Rattle.std.proofs.Common.{sym, ap, ◌∙◌, arith}
-use Rattle.order.specs.Graph.{Safe}
 use Rattle.order.proofs.Turn.{search_stops}
 use Rattle.order.specs.Word.{Word}
 use Rattle.recorder.specs.Flag.{Flag, live_flag, LassoBy}
@@ -13,43 +12,18 @@ use Rattle.table.specs.BlockOf.{block_of}
 use Rattle.table.specs.WellFormed.{WellFormed}
 use Rattle.table.proofs.Sound.{sound}
 use Rattle.table.specs.declared.Table.{Table}
-use Rattle.table.specs.Recording.{graph_of}
+use Rattle.table.specs.Recording.{slots_of, graph_of}
 use Rattle.table.proofs.Recording.{block_states, block_sets}
 use Rattle.writing.specs.Cleared.{cleared}
 use Rattle.writing.proofs.Cleared.{length-cleared, cleared_at, cleared_past, cleared_again}
 use Rattle.search.specs.Climb.{Climbs, path_by, label_of}
-use Rattle.search.proofs.ClimbLaws.{kept_climbs, slot_path}
+use Rattle.search.proofs.ClimbLaws.{kept_climbs, slot_path, path_to}
 use Rattle.search.specs.Report.{halves, odds}
 use Rattle.search.proofs.Report.{Reports, lasso_reported}
 use Rattle.search.specs.Scan.{ScanAsks, Stopped, ScanSays}
-use Rattle.search.specs.Searched.{AnswerSays}
+use Rattle.search.specs.Meet.{SameRest}
 use Rattle.search.specs.Starts.{StartsAsk, StartsSay}
-use Rattle.search.specs.declared.scan.Seen.{Seen}
-use Rattle.search.specs.declared.Answer.TheVariants.{Lasso, Holds}
-use Rattle.search.specs.Find.{FindAsks}
-
--- the starts can be queued once the origins are cleared
-pub starts_asked : {b : List ℕ} {t : Table} {S : ℕ} {work report : List ℕ} (v : List ℕ) → FindAsks b t S work report → v ≡ cleared S work → StartsAsk b t S v
-starts_asked {S} {work} v a e = rw e (record {
-  formed = a.formed;
-  laid = a.laid;
-  slots_are = a.slots_are;
-  room = let l = a.work_room in omega (arith, length-cleared S work (omega arith));
-  fresh = λ x h. cleared_at S work x h;
-})
-
--- and then scanned
-pub scan_asked : {F : Flag} {b : List ℕ} {t : Table} {S : ℕ} {v : List ℕ} {r : ℕ} {u : List ℕ} → StartsAsk b t S v → StartsSay F b S v r u
-    → ScanAsks F b t S u r
-scan_asked a s = record { formed = a.formed; laid = a.laid; slots_are = a.slots_are; kept = s.kept; between = s.between }
-
--- the words past the first 2S stay all the while
-pub rest_stays : {F : Flag} {b : List ℕ} {S : ℕ} (work v u w : List ℕ) {r : ℕ} {seen : Seen} → v ≡ cleared S work → StartsSay F b S v r u
-    → ScanSays F b S u seen w → drop (2 * S) w ≡ drop (2 * S) work
-rest_stays {S} work v u w e s k = k.same.rest ∙ s.same.rest ∙ ap (drop (2 * S)) e ∙ cleared_past S (2 * S) work (omega arith)
-
-pub seen_as : {F : Flag} {b : List ℕ} {S : ℕ} {w w' : List ℕ} {r r' : Seen} → r ≡ r' → ScanSays F b S w r w' → ScanSays F b S w r' w'
-seen_as e k = rw (← e) k
+use Rattle.search.specs.Find.{FindAsks, FindSays}
 
 -- the origins of a scan that stopped lead to a start
 pub stopped_climbs : {F : Flag} {b : List ℕ} {S : ℕ} {w : List ℕ} {head y : ℕ} → Stopped F b S w head y → Climbs w S head
@@ -75,21 +49,67 @@ stopped_tells F b n m S w head y f en em s =
     let p = slot_path F B n m S w head (block_states b ∙ sym en) (block_sets b ∙ sym em) in
     record { ss = ss; l = l; least = least; reports = reports_as p (lasso_reported ss l _ _ least.is.loop.here e) }
 
--- ---- the answers, by the rules' flag
+-- ---- along the code of `find`, by the rules' flag: the origins are cleared, which gives v
+module _ {b : List ℕ} {t : Table} {S : ℕ} {work report : List ℕ} (a : FindAsks b t S work report) {v : List ℕ} (e : v ≡ cleared S work) where
+  -- then the starts can be queued
+  pub starts_asked : StartsAsk b t S v
+  starts_asked = rw e (record {
+    formed = a.formed;
+    laid = a.laid;
+    slots_are = a.slots_are;
+    room = let l = a.work_room in omega (arith, length-cleared S work (omega arith));
+    fresh = λ x h. cleared_at S work x h;
+  })
 
-pub says_lasso : {b : List ℕ} {path : Word} {len u : ℕ} (report report' : List ℕ) → Told live_flag b path → len ≡ length path → u ≡ odds path
-    → report' ≡ halves path ++ drop len report → AnswerSays (block_of b) report (Lasso (len - 1) (u - 1)) report'
-says_lasso {b} {path} {len} {u} report report' t d e r =
-    let q : u - 1 ≡ t.l = omega (arith, t.reports.place) in (
-      t.ss,
-      omega (arith, t.reports.size, t.least.is.loop.here),
-      rw q (least_live (block_of b) t.ss t.l t.least),
-      r ∙ ap (λ (x : List ℕ). x ++ drop len report) t.reports.states ∙ ap (λ (k : ℕ). t.ss ++ drop k report) (d ∙ t.reports.size),
-    )
+  module _ {queued : ℕ} {u : List ℕ} (s : StartsSay live_flag b S v queued u) where
+    -- and then scanned
+    pub scan_asked : ScanAsks live_flag b t S u queued
+    scan_asked = record { formed = a.formed; laid = a.laid; slots_are = a.slots_are; kept = s.kept; between = s.between }
 
-pub says_holds : {b : List ℕ} (report : List ℕ) → WellFormed b → Safe (graph_of live_flag b) → AnswerSays (block_of b) report Holds report
-says_holds {b} report f s = ((least_of_block (block_of b) (sound b f)).none.0 s, refl)
+    -- What is cleared after the scan is what came, cleared: the words past the first 2S stay all the while.
+    clears : {w z : List ℕ} → SameRest S u w → z ≡ cleared (2 * S) w → z ≡ cleared (2 * slots_of b) work
+    clears {w} k d =
+        let rest : drop (2 * S) w ≡ drop (2 * S) work = k.rest ∙ s.same.rest ∙ ap (drop (2 * S)) e ∙ cleared_past S (2 * S) work (omega arith) in
+        d ∙ cleared_again (2 * S) work w rest ∙ rw a.slots_are
 
--- what was cleared at the end is what came, cleared
-pub clears : {S S' : ℕ} (w v : List ℕ) {u : List ℕ} → S ≡ S' → drop (2 * S) v ≡ drop (2 * S) w → u ≡ cleared (2 * S) v → u ≡ cleared (2 * S') w
-clears {S} w v p r e = e ∙ cleared_again (2 * S) w v r ∙ rw p
+    -- ---- no bad slot was met
+    pub says_holds : {w z : List ℕ} → ScanSays live_flag b S u None w → z ≡ cleared (2 * S) w → FindSays b work report None z report
+    says_holds k d = (((least_of_block (block_of b) (sound b a.formed)).none.0 k.seen, refl), clears k.same d)
+
+    -- ---- a bad slot that head leads to
+    module _ {w : List ℕ} {head : ℕ} (k : ScanSays live_flag b S u (Some head) w) where
+      -- the path to head can be climbed
+      pub path_climbs : Climbs w S head
+      path_climbs = stopped_climbs k.seen.1
+
+      abbrev path : Word
+      path = path_by (label_of t.states t.sets) S w head
+
+      told : Told live_flag b path
+      told = stopped_tells live_flag b t.states t.sets S w head _ a.formed a.laid.states_are a.laid.sets_are k.seen.1
+
+      -- it has len records
+      module _ {len : ℕ} (is : (label : ℕ → ℕ) → len ≡ length (path_by label S w head)) where
+        pub len_fits : (len ≡ length path) × (len ≤ length report)
+        len_fits = (is _, omega (arith, is (label_of t.states t.sets), path_to (label_of t.states t.sets) S w head path_climbs, a.report_room))
+
+        pub len_some : 0 < len
+        len_some = omega (arith, is (label_of t.states t.sets), told.reports.size, told.least.is.loop.here)
+
+        module _ {n : ℕ} (d : n ≡ odds path) where
+          pub odds_some : 0 < n
+          odds_some = omega (arith, told.reports.place)
+
+          pub says_lasso : {report' z : List ℕ} → report' ≡ halves path ++ drop len report → z ≡ cleared (2 * S) w
+              → FindSays b work report (Some (record { k = len - 1; l = n - 1 })) z report'
+          says_lasso r c =
+              let size = is (label_of t.states t.sets) ∙ told.reports.size in
+              let place : n - 1 ≡ told.l = omega (arith, told.reports.place) in (
+                (
+                  told.ss,
+                  omega (arith, size, told.least.is.loop.here),
+                  rw place (least_live (block_of b) told.ss told.l told.least),
+                  r ∙ ap (λ (x : List ℕ). x ++ drop len report) told.reports.states ∙ ap (λ (k : ℕ). told.ss ++ drop k report) size,
+                ),
+                clears k.same c,
+              )

@@ -8,5 +8,6 @@ pub mod Scanning
 pub mod StartsLaws
 pub mod Report
 pub mod ClimbLaws
+pub mod Writing
 pub mod FindLaws
 pub mod Laws

@@ -1,5 +1,5 @@
 -- Laws of specs/Meet.antt. Assumes nothing.
-use Rattle.std.specs.Prelude.{◌≡◌, refl, Bool, true, false, List, ℕ, suc, ◌+◌, ◌-◌, ◌*◌, ◌≤◌, ◌<◌}
+use Rattle.std.specs.Prelude.{◌≡◌, refl, List, ℕ, suc, ◌+◌, ◌-◌, ◌*◌, ◌≤◌, ◌<◌}
 use Rattle.std.proofs.Common.{ap, ◌∙◌, add-one, arith, length-set, drop-set-lt}
 use Rattle.std.proofs.Math.Decide.{ℕ_discrete}
 use Rattle.order.specs.Graph.{Graph}
@@ -7,18 +7,18 @@ use Rattle.order.specs.Turn.{Turning}
 use Rattle.order.proofs.Turn.{turn_passes, turn_queues}
 use Rattle.search.specs.Workspace.{origin_at, slot_at, queue_of, Kept, meeting}
 use Rattle.search.proofs.Workspace.{room_left, meeting_agrees, meeting_node, meeting_origin, meeting_keeps}
-use Rattle.search.specs.Meet.{MeetAsks, MeetSays, MeetIfSays, SameRest}
+use Rattle.search.specs.Meet.{MeetAsks, MeetSays, SameRest}
 
--- the same under other names for S, x and the wish
+-- the same under other names for S and x
 pub asks_as : {S S' : ℕ} {w : List ℕ} {tail x x' o : ℕ} → S ≡ S' → x ≡ x' → MeetAsks S' w tail x' o → MeetAsks S w tail x o
 asks_as p q a = rw (p, q) a
 
 pub says_as : {S S' : ℕ} {w : List ℕ} {tail x x' o r : ℕ} {w' : List ℕ} → S ≡ S' → x ≡ x' → MeetSays S w tail x o r w' → MeetSays S' w tail x' o r w'
 says_as p q m = rw (← p, ← q) m
 
-pub if_says_as : {u u' : Bool} {S S' : ℕ} {w : List ℕ} {tail x x' o r : ℕ} {w' : List ℕ} → u ≡ u' → S ≡ S' → x ≡ x'
-    → MeetIfSays u S w tail x o r w' → MeetIfSays u' S' w tail x' o r w'
-if_says_as d p q m = rw (← d, ← p, ← q) m
+-- a slot that was not met leaves room in the queue
+pub room_to_meet : {S : ℕ} {w : List ℕ} {tail x o : ℕ} → MeetAsks S w tail x o → origin_at w x ≡ 0 → tail < S
+room_to_meet a new = room_left _ _ _ _ _ a.kept a.slot_in new a.origin_from
 
 pub rest_same : (S : ℕ) (w : List ℕ) → SameRest S w w
 rest_same S w = record { size = refl; rest = refl }
@@ -53,13 +53,6 @@ module _ {S : ℕ} {w : List ℕ} {tail x o r : ℕ} {w' : List ℕ} (a : MeetAs
             stays = λ i h. (meeting_agrees S tail x o w a.kept a.slot_in e a.origin_from).node i h;
           })
       go (no e) = let (p, q) = m.was_met (omega arith) in rw (p, q) (record { kept = a.kept; same = rest_same S w; longer = omega arith; stays = λ i h. refl })
-
--- and where it is not wanted, nothing changes
-pub meets_if : {wanted : Bool} {S : ℕ} {w : List ℕ} {tail x o r : ℕ} {w' : List ℕ} → MeetAsks S w tail x o → MeetIfSays wanted S w tail x o r w' → Met S w tail r w'
-meets_if {wanted = true} a m = meets a (m.is_wanted refl)
-meets_if {wanted = false} {S} {w} a m =
-    let (p, q) = m.is_not refl in
-    rw (p, q) (record { kept = a.kept; same = rest_same S w; longer = omega arith; stays = λ i h. refl })
 
 pub met_trans : {S : ℕ} {w : List ℕ} {tail r : ℕ} {v : List ℕ} {r' : ℕ} {u : List ℕ} → Met S w tail r v → Met S v r r' u → Met S w tail r' u
 met_trans p q = record {

@@ -1,47 +1,43 @@
--- What holds while the queue is scanned: between two turns and within a row, and how the scan of the queue was left. Over any flag. Assumes
--- nothing.
-use Rattle.std.specs.Prelude.{◌≡◌, List, ℕ, ◌≤◌, ◌<◌}
-use Rattle.std.proofs.Common.{arith}
-use Rattle.order.specs.Graph.{Safe}
+-- What holds while the queue is scanned: between two turns, and within a row. Over any flag. Assumes nothing.
+use Rattle.std.specs.Prelude.{◌≡◌, Bool, List, ℕ, ◌≤◌, ◌<◌}
 use Rattle.order.specs.Turn.{Between}
-use Rattle.order.proofs.Turn.{search_ends}
 use Rattle.recorder.specs.Flag.{Flag}
-use Rattle.table.specs.Recording.{slots_of, graph_of}
+use Rattle.recorder.specs.Says.{Leaves}
+use Rattle.recorder.specs.SlotGraph.{at}
+use Rattle.recorder.specs.declared.Record.{Record}
+use Rattle.table.specs.BlockOf.{block_of}
+use Rattle.table.specs.LaidOut.{LaidOut}
+use Rattle.table.specs.Recording.{slots_of, graph_of, to_of}
+use Rattle.table.specs.WellFormed.{WellFormed}
+use Rattle.table.specs.declared.Table.{Table}
 use Rattle.search.specs.Workspace.{queue_of, Kept}
 use Rattle.search.specs.Meet.{SameRest}
-use Rattle.search.specs.Scan.{Stopped}
 use Rattle.search.proofs.Follow.{Turned}
 
 -- Between two turns. w₀ is the workspace as it came.
-pub record Waiting (F : Flag) (b w₀ w : List ℕ) (bad head tail : ℕ) : Type 0 where
+pub record Waiting (F : Flag) (b w₀ w : List ℕ) (head tail : ℕ) : Type 0 where
   pub kept : Kept (slots_of b) w tail
   -- the words past the first 2S are as they came
   pub same : SameRest (slots_of b) w₀ w
+  -- the queue is no longer than there are slots, and these are few
+  pub tail_to : tail ≤ slots_of b
+  pub few : slots_of b < 4294967295
   -- the indices before head are done
   pub between : Between (graph_of F b) (queue_of (slots_of b) w) head tail
-  -- no bad slot was met
-  pub none : bad ≡ slots_of b
 
--- Within the row of the slot x, at index i. w₀ is the workspace as the row began.
-pub record Within (F : Flag) (b w₀ w : List ℕ) (bad head tail x i : ℕ) : Type 0 where
+-- What was read of the slot x of an accepted table: its record, the marks of its state, and where the state's row ends.
+pub record Reading (b : List ℕ) (t : Table) (S x : ℕ) (r : Record) (goal : Bool) (fair to : ℕ) : Type 0 where
+  pub formed : WellFormed b
+  pub laid : LaidOut b t
+  pub slots_are : S ≡ slots_of b
+  pub r_is : r ≡ at (block_of b) x
+  pub leaves : Leaves (block_of b) r t.states goal fair
+  pub to_is : to ≡ to_of b x
+
+-- Within the row of the slot x that stands at head, at index i. w₀ is the workspace as the row began.
+pub record InRow (F : Flag) (b : List ℕ) (t : Table) (S : ℕ) (w₀ w : List ℕ) (head tail x : ℕ) (r : Record) (goal : Bool) (fair to i : ℕ) : Type 0 where
+  pub read : Reading b t S x r goal fair to
   -- the targets before i are dealt with
   pub turned : Turned F b w head tail x i
+  -- the words past the first 2S are as they were when the row began
   pub same : SameRest (slots_of b) w₀ w
-  pub none : bad ≡ slots_of b
-
--- ---- how the scan of the queue was left: at its end, or in the middle of a row at a bad slot
-pub data Left (F : Flag) (b : List ℕ) (S : ℕ) (w₀ w : List ℕ) (bad head : ℕ) : Type 0 where
-  ended : bad ≡ S → SameRest S w₀ w → Safe (graph_of F b) → Left F b S w₀ w bad head
-  stopped : bad < S → SameRest S w₀ w → Stopped F b S w head bad → Left F b S w₀ w bad head
-
-pub left_ended : {F : Flag} {b : List ℕ} {S : ℕ} {w₀ w w' : List ℕ} {bad bad' head tail : ℕ} → S ≡ slots_of b → Waiting F b w₀ w bad head tail → tail ≤ head → w' ≡ w → bad' ≡ bad
-    → Left F b S w₀ w' bad' head
-left_ended e v h p q = rw (e, p, q) (ended v.none v.same (search_ends v.between (omega (arith, v.between.log.head_le))))
-
-pub left_stopped : {F : Flag} {b : List ℕ} {S : ℕ} {w₀ w w' : List ℕ} {bad y head : ℕ} → S ≡ slots_of b → y < slots_of b → SameRest (slots_of b) w₀ w → Stopped F b (slots_of b) w head y → w' ≡ w → bad ≡ y
-    → Left F b S w₀ w' bad head
-left_stopped e l m k p q = rw (e, p, q) (stopped l m k)
-
-pub left_same : {F : Flag} {b : List ℕ} {S : ℕ} {w₀ w : List ℕ} {bad head : ℕ} → Left F b S w₀ w bad head → SameRest S w₀ w
-left_same (ended e s k) = s
-left_same (stopped l s k) = s

@@ -1,24 +1,30 @@
--- Laws of specs/Starts.antt. Assumes nothing.
+-- Laws of specs/Starts.antt. At the end they are put as the code of `queue_starts` meets them, over plain values. Assumes nothing.
 use Rattle.std.specs.Prelude.{◌≡◌, refl, Bool, true, false, List, ℕ, suc, ◌+◌, ◌-◌, ◌*◌, ◌≤◌, ◌<◌, length}
 use Rattle.std.proofs.Common.{sym, ap, ◌∙◌, true≢false, add-one, arith, eq-eqb}
 use Rattle.std.proofs.Math.Decide.{dec_lt, ℕ_discrete}
 use Rattle.order.specs.Log.{Queued, Entry, by_label}
 use Rattle.order.proofs.Loop.{Agree, empty, push_entry, queued}
 use Rattle.order.specs.Turn.{Between}
-use Rattle.recorder.specs.Flag.{Flag}
+use Rattle.recorder.specs.Flag.{Flag, live_flag}
 use Rattle.recorder.specs.Recorder.{start_of, bad_of, number}
 use Rattle.recorder.proofs.Bad.{bad_says}
+use Rattle.recorder.specs.Says.{StartSays}
 use Rattle.recorder.specs.SlotGraph.{at}
+use Rattle.recorder.specs.Slots.{slot_of, InRange}
+use Rattle.recorder.specs.declared.Record.{Record}
 use Rattle.recorder.proofs.SlotGraph.{at_start}
 use Rattle.table.specs.Layout.{states_of}
 use Rattle.table.specs.BlockOf.{block_of}
 use Rattle.table.specs.WellFormed.{WellFormed}
+use Rattle.table.specs.declared.Table.{Table}
 use Rattle.table.proofs.Sound.{sound}
 use Rattle.table.specs.Recording.{slots_of, graph_of}
-use Rattle.table.proofs.Recording.{start_slot, start_below, block_states, slots_few}
+use Rattle.table.proofs.Recording.{start_slot, start_below, made_range, made_slot, block_states, slots_few}
 use Rattle.search.specs.Workspace.{origin_at, slot_at, queue_of, Kept, meeting}
 use Rattle.search.proofs.Workspace.{kept_none, meeting_agrees, meeting_node, meeting_origin, meeting_keeps}
-use Rattle.search.specs.Meet.{MeetAsks, MeetIfSays}
+use Rattle.search.specs.Meet.{MeetAsks, MeetSays, SameRest}
+use Rattle.search.proofs.MeetLaws.{asks_as, says_as, rest_same, rest_trans, meets}
+use Rattle.search.specs.Starts.{StartsAsk, StartsSay}
 
 -- The starts below state s are queued, and nothing else.
 pub record Starting (F : Flag) (b : List ℕ) (w : List ℕ) (tail s : ℕ) : Type 0 where
@@ -73,14 +79,14 @@ module _ (F : Flag) (b : List ℕ) (f : WellFormed b) (w : List ℕ) (tail s : �
   start_asks h = record { kept = g.kept; slot_in = start_below F b s h; few = slots_few b f; origin_from = omega arith; origin_to = omega arith }
 
   -- state s is no start: nothing changes
-  passes : (block_of b).start s ≡ false → Starting F b w tail (suc s)
-  passes no_start = record {
+  pub starting_passes : (block_of b).start s ≡ false → Starting F b w tail (s + 1)
+  starting_passes no_start = rw (add-one s) (record {
     kept = g.kept;
     entries = g.entries;
     origins = g.origins;
     below = λ i l. omega (arith, g.below i l);
     dealt = λ s' l h. dealt s' h l (dec_lt s' s);
-  }
+  })
     where
       dealt : (s' : ℕ) → (block_of b).start s' ≡ true → s' < suc s → Dec (s' < s) → Queued (queue_of (slots_of b) w) tail (start_slot F b s') 0
       dealt s' h l (yes p) = g.dealt s' p h
@@ -149,12 +155,54 @@ module _ (F : Flag) (b : List ℕ) (f : WellFormed b) (w : List ℕ) (tail s : �
             let d : s ≡ s' = omega arith in
             record { place = tail; place_lt = omega arith; is_node = node ∙ ap (start_slot F b) d; origin_le = omega (arith, origin) }
 
-  -- state s is dealt with
-  pub starting_on : (r : ℕ) (w' : List ℕ) → s < states_of b → MeetIfSays ((block_of b).start s) (slots_of b) w tail (start_slot F b s) 1 r w' → Starting F b w' r (s + 1)
-  starting_on r w' s_in m = rw (add-one s) (go ((block_of b).start s) refl)
-    where
-      go : (u : Bool) → (block_of b).start s ≡ u → Starting F b w' r (suc s)
-      go true e =
-          let (p, q) = (m.is_wanted e).is_new (new e s_in) in
-          rw (p, q, add-one tail) (queues e s_in)
-      go false e = let (p, q) = m.is_not e in rw (p, q) (passes e)
+    -- the slot of its start is met: state s is dealt with
+    pub starting_on : (r : ℕ) (w' : List ℕ) → MeetSays S w tail x 1 r w' → Starting F b w' r (s + 1)
+    starting_on r w' m = let (p, q) = m.is_new new in rw (add-one s, p, q, add-one tail) queues
+
+-- ---- along the code
+
+-- At state s. w₀ is the workspace as it came.
+pub record Queueing (b w₀ w : List ℕ) (tail s : ℕ) : Type 0 where
+  pub starting : Starting live_flag b w tail s
+  -- the words past the first 2S are as they came
+  pub same : SameRest (slots_of b) w₀ w
+
+module _ {b : List ℕ} {t : Table} {S : ℕ} {w₀ : List ℕ} (a : StartsAsk b t S w₀) where
+  pub queueing_begins : Queueing b w₀ w₀ 0 0
+  queueing_begins = record { starting = starting_begins live_flag b w₀ (rw (← a.slots_are) a.room) (rw (← a.slots_are) a.fresh); same = rest_same _ _ }
+
+  module _ {w : List ℕ} {tail s : ℕ} (g : Queueing b w₀ w tail s) where
+    pub queueing_ends : t.states ≤ s → s ≤ t.states → StartsSay live_flag b S w₀ tail w
+    queueing_ends h k =
+        let e : s ≡ states_of b = omega (arith, a.laid.states_are) in
+        rw a.slots_are (record { kept = g.starting.kept; same = g.same; between = starting_ends live_flag b a.formed _ _ _ g.starting e })
+
+    -- state s is no start
+    pub queueing_passes : {u : Bool} → u ≡ (block_of b).start s → u ≡ false → Queueing b w₀ w tail (s + 1)
+    queueing_passes is e = record { starting = starting_passes live_flag b a.formed _ _ _ g.starting (sym is ∙ e); same = g.same }
+
+    -- it is one, its record is r, and r has the slot x
+    module _ (h : s < t.states) {r : Record} (says : StartSays s t.states r) where
+      s_in : s < states_of b
+      s_in = omega (arith, a.laid.states_are)
+
+      r_is : r ≡ start_of live_flag (block_of b) s
+      r_is = says (block_of b) (block_states b ∙ sym a.laid.states_are)
+
+      pub record_fits : (t.states ≤ 64) × (t.sets ≤ 8) × InRange t.states t.sets r
+      record_fits = made_range live_flag _ _ a.laid _ _ r_is h
+
+      module _ {x : ℕ} (d : x ≡ slot_of t.states t.sets r) where
+        slot_is : x ≡ start_slot live_flag b s
+        slot_is = made_slot live_flag _ _ a.laid _ _ r_is _ d
+
+        pub slot_fits : MeetAsks S w tail x 1
+        slot_fits = asks_as a.slots_are slot_is (start_asks live_flag b a.formed _ _ _ g.starting s_in)
+
+        pub queueing_on : {u : Bool} {tail' : ℕ} {w' : List ℕ} → u ≡ (block_of b).start s → u ≡ true → MeetSays S w tail x 1 tail' w' → Queueing b w₀ w' tail' (s + 1)
+        queueing_on is e m =
+            let m' = says_as a.slots_are slot_is m in
+            record {
+              starting = starting_on live_flag b a.formed _ _ _ g.starting (sym is ∙ e) s_in _ _ m';
+              same = rest_trans g.same (meets (start_asks live_flag b a.formed _ _ _ g.starting s_in) m').same;
+            }

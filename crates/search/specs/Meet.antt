@@ -1,5 +1,5 @@
 -- Meeting a slot: what the function that meets one asks and says. proofs/MeetLaws.antt has that a turn of the search goes on by it. Assumes nothing.
-use Rattle.std.specs.Prelude.{◌≡◌, Bool, true, false, List, ℕ, ◌+◌, ◌*◌, ◌≤◌, ◌<◌, length, drop}
+use Rattle.std.specs.Prelude.{◌≡◌, List, ℕ, ◌+◌, ◌*◌, ◌≤◌, ◌<◌, length, drop}
 use Rattle.search.specs.Workspace.{origin_at, Kept, meeting}
 
 -- slot x, of S, can be met with the origin o: the queue is in order, and the numbers fit the words
@@ -14,11 +14,6 @@ pub record MeetAsks (S : ℕ) (w : List ℕ) (tail x o : ℕ) : Type 0 where
 pub record MeetSays (S : ℕ) (w : List ℕ) (tail x o : ℕ) (r : ℕ) (w' : List ℕ) : Type 0 where
   pub was_met : 0 < origin_at w x → (r ≡ tail) × (w' ≡ w)
   pub is_new : origin_at w x ≡ 0 → (r ≡ tail + 1) × (w' ≡ meeting S tail x o w)
-
--- the same where it is wanted
-pub record MeetIfSays (wanted : Bool) (S : ℕ) (w : List ℕ) (tail x o : ℕ) (r : ℕ) (w' : List ℕ) : Type 0 where
-  pub is_wanted : wanted ≡ true → MeetSays S w tail x o r w'
-  pub is_not : wanted ≡ false → (r ≡ tail) × (w' ≡ w)
 
 -- the words past the first 2S and the length stay
 pub record SameRest (S : ℕ) (w w' : List ℕ) : Type 0 where

@@ -1,5 +1,5 @@
 -- What the scan of queue and row asks and says, over any flag. Assumes nothing.
-use Rattle.std.specs.Prelude.{◌≡◌, List, ℕ}
+use Rattle.std.specs.Prelude.{◌≡◌, List, ℕ, Option, Some, None}
 use Rattle.order.specs.Graph.{Safe}
 use Rattle.order.specs.Turn.{Between, Turning}
 use Rattle.recorder.specs.Flag.{Flag}
@@ -9,8 +9,6 @@ use Rattle.table.specs.declared.Table.{Table}
 use Rattle.table.specs.Recording.{slots_of, graph_of}
 use Rattle.search.specs.Workspace.{slot_at, queue_of, Kept}
 use Rattle.search.specs.Meet.{SameRest}
-use Rattle.search.specs.declared.scan.Seen.{Seen}
-use Rattle.search.specs.declared.scan.Seen.TheVariants.{Bad, Clean}
 
 -- an accepted table, whose starts are queued
 pub record ScanAsks (F : Flag) (b : List ℕ) (t : Table) (S : ℕ) (w : List ℕ) (tail : ℕ) : Type 0 where
@@ -28,12 +26,12 @@ pub record Stopped (F : Flag) (b : List ℕ) (S : ℕ) (w : List ℕ) (head y : 
   pub edge : (graph_of F b).Edge (slot_at S w head) y
   pub bad : (graph_of F b).Bad y
 
--- what was seen: a bad slot, or that no run ends bad
-abbrev pub SeenSays : Flag → List ℕ → ℕ → List ℕ → Seen → Type 0
-SeenSays F b S w (Bad head y) = Stopped F b S w head y
-SeenSays F b S w Clean = Safe (graph_of F b)
+-- what was seen: a bad slot that index head leads to, or that no run ends bad
+abbrev pub SeenSays : Flag → List ℕ → ℕ → List ℕ → Option ℕ → Type 0
+SeenSays F b S w (Some head) = (y : ℕ) × Stopped F b S w head y
+SeenSays F b S w None = Safe (graph_of F b)
 
 -- what was seen, and that the words past the first 2S stay
-pub record ScanSays (F : Flag) (b : List ℕ) (S : ℕ) (w : List ℕ) (r : Seen) (w' : List ℕ) : Type 0 where
+pub record ScanSays (F : Flag) (b : List ℕ) (S : ℕ) (w : List ℕ) (r : Option ℕ) (w' : List ℕ) : Type 0 where
   pub same : SameRest S w w'
   pub seen : SeenSays F b S w' r

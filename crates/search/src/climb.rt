@@ -48,9 +48,8 @@ pub(crate) fn write_path(
         left -= 1;
         let x = writing::at(work, slots + i);
         let r = Record::of_slot(x, n, m);
-        let s = r.s;
-        report[left] = s as u32;
-        unsaved += (r.t == n) as usize;
+        report[left] = r.s as u32;
+        unsaved += usize::from(r.t == n);
         let origin = writing::at(work, x);
         if origin < 2 {
             return unsaved;

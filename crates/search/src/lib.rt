@@ -9,53 +9,50 @@ mod starts;
 ghost use Rattle.search.specs.Searched.{SearchSays};
 ghost use Rattle.search.specs.Find.{FindAsks, FindSays};
 
-use scan::Seen;
 use table::{Opened, Refusal, Table};
 
-// What a search answers: the least lasso's length k and loop place l, that the goal holds, or why it is refused.
+// The least lasso: its length k and its loop place l.
 #[derive(Clone, Copy)]
-pub enum Answer {
-    Lasso { k: usize, l: usize },
-    Holds,
-    Refused(Refusal),
+pub struct Lasso {
+    pub k: usize,
+    pub l: usize,
 }
 
-// The search of an accepted table, with buffers that are long enough.
-fn find(bytes: &[u8], t: Table, work: &mut [u32], report: &mut [u32], slots: usize) -> Answer
+// The search of an accepted table, with buffers that are long enough. None: the goal holds.
+fn find(bytes: &[u8], t: Table, work: &mut [u32], report: &mut [u32], slots: usize) -> Option<Lasso>
     requires { FindAsks bytes.now t slots work.old report.old }
     ensures { FindSays bytes.now work.old report.old result work.new report.new }
 {
     // The queue's words may hold anything: each is written before it is read.
     writing::clear(work, slots);
     let queued = starts::queue_starts(bytes, t, work, slots);
-    let seen = scan::scan(bytes, t, work, slots, queued);
-    let Seen::Bad { head, slot: _ } = seen else {
+    let Some(head) = scan::scan(bytes, t, work, slots, queued) else {
         writing::clear(work, 2 * slots);
-        return Answer::Holds;
+        return None;
     };
     let len = climb::path_length(work, slots, head);
     let unsaved = climb::write_path(work, report, slots, t.states, t.sets, head, len);
     writing::clear(work, 2 * slots);
-    Answer::Lasso {
+    Some(Lasso {
         k: len - 1,
         l: unsaved - 1,
-    }
+    })
 }
 
-// Searches the table in the bytes for its least lasso, in the words of the workspace, and reports its states.
-pub fn search(bytes: &[u8], work: &mut [u32], report: &mut [u32]) -> Answer
+// Searches the table in the bytes for its least lasso, in the words of the workspace, and reports its states. None: the goal holds.
+pub fn search(bytes: &[u8], work: &mut [u32], report: &mut [u32]) -> Result<Option<Lasso>, Refusal>
     ensures { SearchSays bytes.now work.old report.old result work.new report.new }
 {
     let answer = opening::open(bytes);
     let Opened::Accepted(t) = answer else {
-        return Answer::Refused(opening::why(answer));
+        return Err(opening::why(answer));
     };
     let slots = recorder::slot_count(t.states, t.sets);
     if work.len() < 2 * slots {
-        return Answer::Refused(Refusal::ShortWorkspace);
+        return Err(Refusal::ShortWorkspace);
     }
     if report.len() < slots {
-        return Answer::Refused(Refusal::ShortReport);
+        return Err(Refusal::ShortReport);
     }
-    find(bytes, t, work, report, slots)
+    Ok(find(bytes, t, work, report, slots))
 }

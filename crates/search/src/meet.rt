@@ -1,5 +1,5 @@
 // Meeting a slot: its origin is written and it is queued, unless it was met before.
-ghost use Rattle.search.specs.Meet.{MeetAsks, MeetSays, MeetIfSays};
+ghost use Rattle.search.specs.Meet.{MeetAsks, MeetSays};
 
 // Meets slot x with an origin; answers the queue's length afterwards.
 pub(crate) fn meet(work: &mut [u32], slots: usize, tail: usize, x: usize, origin: usize) -> usize
@@ -12,22 +12,4 @@ pub(crate) fn meet(work: &mut [u32], slots: usize, tail: usize, x: usize, origin
     work[x] = origin as u32;
     work[slots + tail] = x as u32;
     tail + 1
-}
-
-// The same where it is wanted.
-pub(crate) fn meet_if(
-    wanted: bool,
-    work: &mut [u32],
-    slots: usize,
-    tail: usize,
-    x: usize,
-    origin: usize,
-) -> usize
-    requires { MeetAsks slots work.old tail x origin }
-    ensures { MeetIfSays wanted slots work.old tail x origin result work.new }
-{
-    if wanted {
-        return meet(work, slots, tail, x, origin);
-    }
-    tail
 }

@@ -14,12 +14,11 @@ pub(crate) fn queue_starts(bytes: &[u8], t: Table, work: &mut [u32], slots: usiz
     let n = t.states;
     let m = t.sets;
     let mut tail = 0;
-    let mut s = 0;
-    while s < n {
-        let start = Record::start(s, n);
-        let x = start.slot(n, m);
-        tail = meet::meet_if(table::is_start(bytes, t, s), work, slots, tail, x, 1);
-        s += 1;
+    for s in 0..n {
+        if table::is_start(bytes, t, s) {
+            let x = Record::start(s, n).slot(n, m);
+            tail = meet::meet(work, slots, tail, x, 1);
+        }
     }
     tail
 }

@@ -9,9 +9,6 @@ use Rattle.search.proofs.climb.path_length.Goals as goal
 pub loop-slots-init : goal.loop-slots-init
 loop-slots-init c = record { down = omega arith; passed = λ label. ([], climb_begins label _ _ _, refl) }
 
-pub at-origin-requires : goal.at-origin-requires
-at-origin-requires c = omega (arith, c.requires.below c.loop-slots.i (omega arith))
-
 pub returns-then-origin-lt2 : goal.returns-then-origin-lt2
 returns-then-origin-lt2 c label =
     let (done, p, e) = c.loop-slots.invariant.passed label in
