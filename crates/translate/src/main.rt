@@ -16,7 +16,6 @@ fn run<R: io::Read, W: io::Write, E: io::Write>(
     table: &mut [u8; 4449],
     out: &mut [u8; 65536],
 ) -> Result<(), Failed>
-    requires { length out.old ≡ 65536 }
     ensures writes { OnOk result (Writes (R.remaining input.old) (R.remaining input.new) (W.contents output.old) (W.contents output.new)
         out.old) }
     ensures quiet { OnOk result (errors.new ≡ errors.old) }

@@ -18,7 +18,6 @@ fn run<R: io::Read, W: io::Write, E: io::Write>(
     report: &mut [u32; 8192],
     out: &mut [u8; 196608],
 ) -> Result<(), Failed>
-    requires { length out.old ≡ 196608 }
     ensures prints { OnOk result (Prints (R.remaining input.old) (R.remaining input.new) (W.contents output.old) (W.contents output.new)
         work.old report.old out.old) }
     ensures quiet { OnOk result (errors.new ≡ errors.old) }
