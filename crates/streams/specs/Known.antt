@@ -1,23 +1,8 @@
--- What a read does to the bytes that an input has left, where those are known. Definitions alone. Assumes nothing.
-use Rattle.std.specs.Prelude.{◌≡◌, ◌≢◌, ◌<◌, ℕ, List, ⊤, length, take, Option}
-use Rattle.std.specs.IoError.{error_kind}
-use Rattle.std.specs.Io.KnownBytes.{Consumes, IsAtEnd, Keeps}
-use Rattle.std.specs.declared.io.Error.{Error}
-use Rattle.std.specs.declared.io.ErrorKind.TheVariants as kinds
-use Rattle.streams.specs.declared.Part.{Part}
-use Rattle.streams.specs.declared.Part.TheVariants.{Bytes, End, Interrupted, Failed}
+-- How many bytes came in a read. Definitions alone. Assumes nothing.
+use Rattle.std.specs.Prelude.{ℕ, Result, Ok, Err}
+use Rattle.streams.specs.declared.Unread.{Unread}
 
--- one read into `part`: the bytes that came are the input's next; with room for one more there is an end only where none is left; a read that fails
--- takes none
-abbrev pub PartReads : Option (List ℕ) → Option (List ℕ) → Part → List ℕ → Type 0
-PartReads old new (Bytes n) part = Consumes old new (take n part)
-PartReads old new End part = Keeps old new × (0 < length part → IsAtEnd new)
-PartReads old new Interrupted part = Keeps old new
-PartReads old new Failed part = Keeps old new
-
--- only a read that a signal interrupted is told as interrupted, and no such read as failed
-abbrev pub PartReason : Part → Error → Type 0
-PartReason (Bytes n) reason = ⊤
-PartReason End reason = ⊤
-PartReason Interrupted reason = error_kind reason ≡ kinds.Interrupted
-PartReason Failed reason = error_kind reason ≢ kinds.Interrupted
+-- the bytes that came, of a read that failed too
+abbrev pub count_of : Result ℕ Unread → ℕ
+count_of (Ok n) = n
+count_of (Err unread) = unread.count

@@ -1,3 +1,2 @@
--- What is counted of a read, that it fits, and which bytes it brings. Assumes nothing.
-pub mod Counted
+-- How many bytes came in a read, whether it failed or not. Assumes nothing.
 pub mod Known

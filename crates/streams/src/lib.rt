@@ -4,141 +4,105 @@
 // fits and that reading ends.
 #![tactic(auto)]
 
-ghost use Rattle.std.specs.Prelude.{◌≡◌, false, true, ◌⊎◌, length, take, ◌≤◌};
+ghost use Rattle.std.specs.Prelude.{◌≡◌, ◌≢◌, ◌⊎◌, length, take, OnOk, IfOk, IfErr};
 ghost use Rattle.std.specs.Io.KnownBytes.{Appends, Consumes, IsAtEnd};
+ghost use Rattle.std.specs.IoError.{error_kind};
 ghost use Rattle.io.specs.Counts.{IsPrefixLen};
-ghost use Rattle.streams.specs.Counted.{part_of, PartCounts};
-ghost use Rattle.streams.specs.Known.{PartReads, PartReason};
+ghost use Rattle.streams.specs.Known.{count_of};
 
 use std::io;
 use std::io::{ErrorKind, Write};
 
-// What came: so many bytes at the start of the buffer. Where a read failed, they are no table.
-#[derive(Drop)]
-pub struct Read {
+// A read that failed: so many bytes came before it, and they are no table.
+#[derive(Clone, Copy)]
+pub struct Unread {
     pub count: usize,
-    pub failed: bool,
+    pub reason: io::Error,
 }
 
-// What one read answers.
-#[derive(Drop)]
-enum Part {
-    Bytes(usize),
-    End,
-    Interrupted,
-    Failed,
-}
-
-// What a read answers that brought n bytes, or that failed, perhaps because a signal interrupted it.
-fn part_of(failed: bool, interrupted: bool, n: usize) -> Part
-    ensures value { result ≡ part_of failed interrupted n }
-    ensures part_counts { PartCounts result n }
-{
-    if failed {
-        return if interrupted {
-            Part::Interrupted
-        } else {
-            Part::Failed
-        };
-    }
-    if n == 0 { Part::End } else { Part::Bytes(n) }
-}
-
-// Reads once. A pipe may deliver fewer bytes than there is room for. The error of a read that failed is left in `reason`.
-fn read_part<R: io::Read>(input: &mut R, part: &mut [u8], reason: &mut io::Error) -> Part
-    ensures counts { PartCounts result (length part.old) }
-    ensures bytes { PartReads (R.remaining input.old) (R.remaining input.new) result part.new }
-    ensures reason { PartReason result reason.new }
-{
-    match input.read(part) {
-        Ok(n) => part_of(false, false, n),
-        Err(error) => {
-            *reason = error;
-            let interrupted = error.kind() == ErrorKind::Interrupted;
-            part_of(true, interrupted, 0)
-        }
-    }
-}
-
-// Reads until the input ends or the buffer is full. A read that a signal interrupts is made again. A proved loop has to end, so it counts its turns
-// down from a number that no run uses up. The error of the last read that failed is left in `reason`.
-fn read_all<R: io::Read>(input: &mut R, table: &mut [u8; 4449], reason: &mut io::Error) -> Read
-    ensures counts { IsPrefixLen result.count table.new }
-    ensures bytes { Consumes (R.remaining input.old) (R.remaining input.new) (take result.count table.new) }
-    ensures all { result.failed ≡ false → (result.count ≡ 4449) ⊎ IsAtEnd (R.remaining input.new) }
+// Reads until the input ends or the buffer is full, and answers how many bytes came. A pipe may deliver fewer bytes at a time than there is room for.
+// A read that a signal interrupts is made again. A proved loop has to end, so it counts its turns up to a number that no run reaches.
+fn read_all<R: io::Read>(input: &mut R, table: &mut [u8; 4449]) -> Result<usize, Unread>
+    ensures counts { IsPrefixLen (count_of result) table.new }
+    ensures bytes { Consumes (R.remaining input.old) (R.remaining input.new) (take (count_of result) table.new) }
+    ensures all { IfOk result (λ n. (n ≡ 4449) ⊎ IsAtEnd (R.remaining input.new)) }
+    ensures retried { IfErr result (λ unread. error_kind unread.reason ≢ ErrorKind.Interrupted) }
 {
     let bytes: &mut [u8] = table;
-    let mut done = 0;
-    let mut turns = u64::MAX;
-    while turns > 0 {
-        if bytes.len() <= done {
-            return Read {
-                count: done,
-                failed: false,
-            };
+    let mut count = 0;
+    for _ in 0..u64::MAX {
+        if bytes.len() <= count {
+            return Ok(count);
         }
-        turns -= 1;
-        match read_part(input, &mut bytes[done..], reason) {
-            Part::Bytes(n) => done += n,
-            Part::Interrupted => {}
-            Part::End => return Read {
-                count: done,
-                failed: false,
-            },
-            Part::Failed => return Read {
-                count: done,
-                failed: true,
-            },
+        match input.read(&mut bytes[count..]) {
+            Ok(0) => return Ok(count),
+            Ok(n) => count += n,
+            Err(reason) if reason.kind() == ErrorKind::Interrupted => continue,
+            Err(reason) => return Err(Unread { count, reason }),
         }
     }
-    Read {
-        count: done,
-        failed: true,
+    let reason = io::Error::from(ErrorKind::TimedOut);
+    Err(Unread { count, reason })
+}
+
+// Why a table was not read, or what was made of it not written.
+#[derive(Clone, Copy)]
+pub enum Failed {
+    Unread(Unread),
+    Unwritten(io::Error),
+}
+
+impl From<Unread> for Failed {
+    fn from(unread: Unread) -> Failed {
+        Failed::Unread(unread)
     }
 }
 
-// Writes the line `why` with the reason. Where that fails there is nobody left to tell.
-fn tell<E: io::Write>(errors: &mut E, why: &[u8], reason: io::Error) {
-    if errors.write_all(why).is_ok() {
-        let _ = writeln!(errors, ": {reason}");
+impl From<io::Error> for Failed {
+    fn from(reason: io::Error) -> Failed {
+        Failed::Unwritten(reason)
     }
 }
 
-// Reads a table. Where that fails, the line `why` with the system's reason goes to `errors`.
+// Writes the line `why` with the reason.
+fn tell<E: io::Write>(errors: &mut E, why: &[u8], reason: io::Error) -> io::Result<()> {
+    errors.write_all(why)?;
+    writeln!(errors, ": {reason}")
+}
+
+// Reads a table, and answers how many bytes came. Where that fails, the line `why` with the system's reason goes to `errors`; where that fails too,
+// there is nobody left to tell.
 pub fn read_table<R: io::Read, E: io::Write>(
     input: &mut R,
     errors: &mut E,
     table: &mut [u8; 4449],
     why: &[u8],
-) -> Read
-    ensures counts { IsPrefixLen result.count table.new }
-    ensures bytes { Consumes (R.remaining input.old) (R.remaining input.new) (take result.count table.new) }
-    ensures all { result.failed ≡ false → (result.count ≡ 4449) ⊎ IsAtEnd (R.remaining input.new) }
-    ensures quiet { result.failed ≡ false → errors.new ≡ errors.old }
+) -> Result<usize, Unread>
+    ensures counts { IsPrefixLen (count_of result) table.new }
+    ensures bytes { Consumes (R.remaining input.old) (R.remaining input.new) (take (count_of result) table.new) }
+    ensures all { IfOk result (λ n. (n ≡ 4449) ⊎ IsAtEnd (R.remaining input.new)) }
+    ensures quiet { OnOk result (errors.new ≡ errors.old) }
 {
-    let mut reason = io::Error::from(ErrorKind::Interrupted);
-    let read = read_all(input, table, &mut reason);
-    if read.failed {
-        tell(errors, why, reason);
+    let read = read_all(input, table);
+    if let Err(unread) = &read {
+        let _ = tell(errors, why, unread.reason);
     }
     read
 }
 
-// Writes the first n bytes, and returns whether all were written. Where not, the line `why` with the system's reason goes to `errors`.
-pub fn write_first<W: io::Write, E: io::Write>(
+// Writes the bytes. Where that fails, the line `why` with the system's reason goes to `errors`, as above.
+pub fn write_all<W: io::Write, E: io::Write>(
     output: &mut W,
     errors: &mut E,
     bytes: &[u8],
-    n: usize,
     why: &[u8],
-) -> bool
-    requires { n ≤ length bytes.now }
-    ensures bytes { result ≡ true → Appends (W.contents output.old) (W.contents output.new) (take n bytes.now) }
-    ensures quiet { result ≡ true → errors.new ≡ errors.old }
+) -> io::Result<()>
+    ensures bytes { OnOk result (Appends (W.contents output.old) (W.contents output.new) bytes.now) }
+    ensures quiet { OnOk result (errors.new ≡ errors.old) }
 {
-    if let Err(reason) = output.write_all(&bytes[..n]) {
-        tell(errors, why, reason);
-        return false;
+    let written = output.write_all(bytes);
+    if let Err(reason) = &written {
+        let _ = tell(errors, why, *reason);
     }
-    true
+    written
 }

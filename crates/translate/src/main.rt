@@ -2,38 +2,34 @@
 // docs/RULES.md, "What the programs print". It only reads and writes; the bytes are made by lines::translate.
 #![tactic(auto)]
 
-ghost use Rattle.std.specs.Prelude.{◌≡◌, true, length};
+ghost use Rattle.std.specs.Prelude.{◌≡◌, length, OnOk};
 ghost use Rattle.translate.specs.Writes.{Writes};
 
 use std::io;
+use streams::Failed;
 
-// Returns whether all was read and written.
+// Reads a table and writes what is made of it.
 fn run<R: io::Read, W: io::Write, E: io::Write>(
     input: &mut R,
     output: &mut W,
     errors: &mut E,
     table: &mut [u8; 4449],
     out: &mut [u8; 65536],
-) -> bool
-    requires { length out.old ≡ 65536 }
-    ensures writes { result ≡ true → Writes (R.remaining input.old) (R.remaining input.new) (W.contents output.old) (W.contents output.new)
-        out.old }
-    ensures quiet { result ≡ true → errors.new ≡ errors.old }
+) -> Result<(), Failed>
+    ensures writes { OnOk result (Writes (R.remaining input.old) (R.remaining input.new) (W.contents output.old) (W.contents output.new)
+        out.old) }
+    ensures quiet { OnOk result (errors.new ≡ errors.old) }
 {
-    let read = streams::read_table(input, errors, table, b"translate: standard input");
-    if read.failed {
-        return false;
-    }
-    let n = read.count;
-    let bytes: &[u8] = table;
-    let end = lines::translate(&bytes[..n], out);
-    streams::write_first(output, errors, out, end, b"translate: standard output")
+    let count = streams::read_table(input, errors, table, b"translate: standard input")?;
+    let end = lines::translate(&table[..count], out);
+    streams::write_all(output, errors, &out[..end], b"translate: standard output")?;
+    Ok(())
 }
 
 fn main(rt: HostRuntime) {
     let mut table = [0u8; 4449];
     let mut out = [0u8; 65536];
-    run(
+    let _ = run(
         &mut rt.stdin(),
         &mut rt.stdout(),
         &mut rt.stderr(),

@@ -2,12 +2,13 @@
 // reads and writes; the text is made by lines::verdict.
 #![tactic(auto)]
 
-ghost use Rattle.std.specs.Prelude.{◌≡◌, true, length};
+ghost use Rattle.std.specs.Prelude.{◌≡◌, length, OnOk};
 ghost use Rattle.verdict.specs.Prints.{Prints};
 
 use std::io;
+use streams::Failed;
 
-// Returns whether all was read and written.
+// Reads a table and writes what is made of it.
 fn run<R: io::Read, W: io::Write, E: io::Write>(
     input: &mut R,
     output: &mut W,
@@ -16,20 +17,15 @@ fn run<R: io::Read, W: io::Write, E: io::Write>(
     work: &mut [u32; 16384],
     report: &mut [u32; 8192],
     out: &mut [u8; 196608],
-) -> bool
-    requires { length out.old ≡ 196608 }
-    ensures prints { result ≡ true → Prints (R.remaining input.old) (R.remaining input.new) (W.contents output.old) (W.contents output.new)
-        work.old report.old out.old }
-    ensures quiet { result ≡ true → errors.new ≡ errors.old }
+) -> Result<(), Failed>
+    ensures prints { OnOk result (Prints (R.remaining input.old) (R.remaining input.new) (W.contents output.old) (W.contents output.new)
+        work.old report.old out.old) }
+    ensures quiet { OnOk result (errors.new ≡ errors.old) }
 {
-    let read = streams::read_table(input, errors, table, b"verdict: standard input");
-    if read.failed {
-        return false;
-    }
-    let n = read.count;
-    let bytes: &[u8] = table;
-    let end = lines::verdict(&bytes[..n], work, report, out);
-    streams::write_first(output, errors, out, end, b"verdict: standard output")
+    let count = streams::read_table(input, errors, table, b"verdict: standard input")?;
+    let end = lines::verdict(&table[..count], work, report, out);
+    streams::write_all(output, errors, &out[..end], b"verdict: standard output")?;
+    Ok(())
 }
 
 fn main(rt: HostRuntime) {
@@ -37,7 +33,7 @@ fn main(rt: HostRuntime) {
     let mut work = [0u32; 16384];
     let mut report = [0u32; 8192];
     let mut out = [0u8; 196608];
-    run(
+    let _ = run(
         &mut rt.stdin(),
         &mut rt.stdout(),
         &mut rt.stderr(),
