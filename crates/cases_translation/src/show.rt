@@ -58,16 +58,18 @@ pub(crate) fn line(
     }
 }
 
-// The same in an output of its own, of n bytes.
+// The same with the first n bytes of the room, which have BEFORE first.
 pub(crate) fn case(
     rt: &impl Print,
     name: &str,
     table: &[u8],
+    room: &mut [u8],
     n: usize,
     end: End,
 ) -> io::Result<()> {
-    let mut room = [0; 603200];
-    let out = &mut room[..n.min(603200)];
-    BEFORE.fill(out);
-    line(rt, name, table, out, end)
+    if let Some(out) = room.get_mut(..n) {
+        BEFORE.fill(out);
+        line(rt, name, table, out, end)?;
+    }
+    Ok(())
 }
