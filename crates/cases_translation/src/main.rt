@@ -67,6 +67,7 @@ const SETS: &[Case] = &[
     ("four sets, back to 0 between them", &PETALS, 12009),
 ];
 
+// Runs the cases, each in the first bytes of the room.
 fn each(rt: &impl Print, cases: &[Case], room: &mut [u8], end: End) -> io::Result<()> {
     for &(name, table, n) in cases {
         case(rt, name, table, room, n, end)?;

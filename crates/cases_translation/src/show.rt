@@ -19,13 +19,10 @@ pub(crate) enum End {
 
 // The sum of all bytes, and the sum of the sums up to each byte, which goes by their order too.
 fn sums(out: &[u8]) -> (u64, u64) {
-    let mut sum = 0u64;
-    let mut both = 0u64;
-    for x in out {
-        sum = sum.wrapping_add(u64::from(*x));
-        both = both.wrapping_add(sum);
-    }
-    (sum, both)
+    out.iter().fold((0, 0), |(sum, both), x| {
+        let sum = u64::from(*x).wrapping_add(sum);
+        (sum, sum.wrapping_add(both))
+    })
 }
 
 // Translates into this output, which had BEFORE at first, and prints the line.
@@ -58,7 +55,7 @@ pub(crate) fn line(
     }
 }
 
-// The same with the first n bytes of the room, which have BEFORE first.
+// The same with the first n bytes of the room, which is that long, and BEFORE in them.
 pub(crate) fn case(
     rt: &impl Print,
     name: &str,
