@@ -1,83 +1,68 @@
-// One line a case: its name and how many words are lent; `lasso` k l and the run, or `holds`, or `refused` number place; then what the buffers
+// A case: one line with its name and how many words are lent; `lasso` k l and the run, or `holds`, or `refused` number place; then what the buffers
 // have.
-use super::pattern;
-use super::pattern::Pattern;
+use cases::{Numbers, Pattern, Refused};
 use search::Answer;
 use std::io;
 
-fn text(rt: &impl Print, words: &str) -> io::Result<()> {
-    rt.print(words)
-}
+// 100, 101, 102 and so on: no state of a table has such a number.
+pub(crate) const RISING: Pattern<u32> = Pattern {
+    first: 100,
+    step: 1,
+};
 
-fn number(rt: &impl Print, before: &str, x: usize) -> io::Result<()> {
-    print!(rt; "{before}{x}")
-}
-
-fn word(rt: &impl Print, x: u32) -> io::Result<()> {
-    number(rt, " ", x as usize)
-}
-
-// Writes the words from index `from` on and below `to`.
-fn words(rt: &impl Print, w: &[u32], from: usize, to: usize) -> io::Result<()> {
-    for x in w.iter().take(to).skip(from) {
-        word(rt, *x)?;
-    }
-    Ok(())
-}
-
-// How many words a run of length k takes, in a report of `len` words.
-fn run_words(k: usize, len: usize) -> usize {
-    if k < len { k + 1 } else { len }
-}
-
-// Writes the answer, and gives back how many words of the report it takes.
-fn answered(rt: &impl Print, answer: Answer, report: &[u32]) -> io::Result<usize> {
-    match answer {
-        Answer::Lasso { k, l } => {
-            let taken = run_words(k, report.len());
-            number(rt, ": lasso ", k)?;
-            number(rt, " ", l)?;
-            text(rt, ", run")?;
-            words(rt, report, 0, taken)?;
-            Ok(taken)
-        }
-        Answer::Holds => {
-            text(rt, ": holds")?;
-            Ok(0)
-        }
-        Answer::Refused(why) => {
-            number(rt, ": refused ", why.number() as usize)?;
-            number(rt, " ", why.place())?;
-            Ok(0)
-        }
-    }
-}
-
-// Searches in these buffers, which had the pattern p at first, and writes the line: the zeros that the workspace begins with and how many words
-// past them are as the pattern has them, and, past the run, the whole report or how many of its words are as the pattern has them.
+// Searches in these buffers, which had the pattern p at first, and prints the line: the zeros that the workspace begins with and how many words past
+// them are as the pattern has them, and, past the run, the whole report or how many of its words are as the pattern has them.
 pub(crate) fn line(
     rt: &impl Print,
     name: &str,
-    bytes: &[u8],
+    table: &[u8],
     work: &mut [u32],
     report: &mut [u32],
-    p: Pattern,
+    p: Pattern<u32>,
     whole: bool,
 ) -> io::Result<()> {
-    text(rt, name)?;
-    number(rt, ", ", work.len())?;
-    number(rt, " and ", report.len())?;
-    text(rt, " words")?;
-    let answer = search::search(bytes, work, report);
-    let taken = answered(rt, answer, report)?;
-    let cleared = pattern::zeros(work);
-    number(rt, ", zeros ", cleared)?;
-    number(rt, " kept ", pattern::kept(work, cleared, p))?;
+    print!(rt; "{name}, {} and {} words: ", work.len(), report.len())?;
+    let taken = match search::search(table, work, report) {
+        Answer::Lasso { k, l } => {
+            // A run of length k has k + 1 states.
+            let taken = k.saturating_add(1).min(report.len());
+            print!(rt; "lasso {k} {l}, run{}", Numbers(&report[..taken]))?;
+            taken
+        }
+        Answer::Holds => {
+            print!(rt; "holds")?;
+            0
+        }
+        Answer::Refused(why) => {
+            print!(rt; "{}", Refused(why))?;
+            0
+        }
+    };
+    let zeros = work.iter().take_while(|x| **x == 0).count();
+    print!(rt; ", zeros {zeros} kept {}", p.kept(work, zeros))?;
     if whole {
-        text(rt, ", rest of the report")?;
-        words(rt, report, taken, report.len())?;
+        println!(rt; ", rest of the report{}", Numbers(&report[taken..]))
     } else {
-        number(rt, ", report kept ", pattern::kept(report, taken, p))?;
+        println!(rt; ", report kept {}", p.kept(report, taken))
     }
-    text(rt, "\n")
+}
+
+// The same in buffers of its own, with w workspace words and r report words; the arrays are that long.
+pub(crate) fn case(
+    rt: &impl Print,
+    name: &str,
+    table: &[u8],
+    w: usize,
+    r: usize,
+    p: Pattern<u32>,
+    whole: bool,
+) -> io::Result<()> {
+    let mut work = [0; 16740];
+    let mut report = [0; 8420];
+    if let (Some(work), Some(report)) = (work.get_mut(..w), report.get_mut(..r)) {
+        p.fill(work);
+        p.fill(report);
+        line(rt, name, table, work, report, p, whole)?;
+    }
+    Ok(())
 }

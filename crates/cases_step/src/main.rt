@@ -2,135 +2,80 @@
 // "Plausible slips" that a single step can show.
 #![tactic(auto)]
 
-mod show;
-
-use show::{at, case};
+use cases::Refused;
+use recorder::Record;
+use samples::{A, D, E, F, G, GOAL_AT_THE_START as START, TOO_MANY, WRONG_MARK};
 use std::io;
+use stepping::Stepped;
 
-// The bits of the state that is saved count on the saving step; a wish where a state is saved already changes nothing.
-fn saving(rt: &impl Print) -> io::Result<()> {
-    let e = samples::E;
-    case(rt, "e save at 1", &e, at(1, 2, false, 0), 1, true)?;
-    case(rt, "e no wish at 1", &e, at(1, 2, false, 0), 1, false)?;
-    case(rt, "e save at 0", &e, at(0, 2, false, 0), 1, true)?;
-    case(rt, "e wish, 0 saved", &e, at(1, 0, false, 0), 1, true)?;
-    case(rt, "e no wish, 0 saved", &e, at(1, 0, false, 0), 1, false)?;
-    case(rt, "e bit kept", &e, at(0, 0, false, 1), 1, false)
-}
+const FAR: usize = usize::MAX;
 
-// No bits are set before the save, and all the bits of each state from it on.
-fn bits(rt: &impl Print) -> io::Result<()> {
-    let f = samples::F;
-    let g = samples::G;
-    case(
-        rt,
-        "f no bits before the save",
-        &f,
-        at(0, 2, false, 0),
-        1,
-        false,
-    )?;
-    case(rt, "f save after that", &f, at(1, 2, false, 0), 1, true)?;
-    case(rt, "f save at 0", &f, at(0, 2, false, 0), 1, true)?;
-    case(rt, "g save at 0", &g, at(0, 2, false, 0), 1, true)?;
-    case(rt, "g second bit", &g, at(1, 0, false, 1), 0, false)?;
-    case(rt, "g both bits kept", &g, at(0, 0, false, 3), 1, false)
-}
-
-// The goal is that of the state that is left; a flag that is set stays set.
-fn goals(rt: &impl Print) -> io::Result<()> {
-    let a = samples::A;
-    let d = samples::D;
-    let s = samples::GOAL_AT_THE_START;
-    case(rt, "a into the goal", &a, at(2, 4, false, 0), 3, false)?;
-    case(rt, "a out of the goal", &a, at(3, 4, false, 0), 0, false)?;
-    case(rt, "a stays live", &a, at(0, 4, true, 0), 1, false)?;
-    case(rt, "a stays live, saving", &a, at(1, 4, true, 0), 2, true)?;
-    case(rt, "goal at the start", &s, at(0, 2, false, 0), 1, false)?;
-    case(
-        rt,
-        "goal at the start, saving",
-        &s,
-        at(0, 2, false, 0),
-        1,
-        true,
-    )?;
-    case(rt, "d save", &d, at(0, 1, false, 0), 0, true)
-}
-
-// Line 12, one wrong part at a time and two, at the limits and far above.
-fn wrong_records(rt: &impl Print) -> io::Result<()> {
-    let e = samples::E;
-    let far = 18446744073709551615;
-    case(
-        rt,
-        "e all parts at the limit",
-        &e,
-        at(1, 2, true, 1),
-        1,
-        false,
-    )?;
-    case(rt, "e s = n", &e, at(2, 2, false, 0), 1, false)?;
-    case(rt, "e next = n", &e, at(0, 2, false, 0), 2, false)?;
-    case(rt, "e t = n + 1", &e, at(0, 3, false, 0), 1, false)?;
-    case(rt, "e v = 2^m", &e, at(0, 2, false, 2), 1, false)?;
-    case(rt, "e s = next = n", &e, at(2, 2, false, 0), 2, false)?;
-    case(rt, "e t and v", &e, at(0, 3, false, 2), 1, false)?;
-    case(rt, "e far above", &e, at(far, far, true, far), far, true)
-}
-
-// 2^m by the table's own m.
-fn wrong_bits(rt: &impl Print) -> io::Result<()> {
-    let a = samples::A;
-    let g = samples::G;
-    case(rt, "a v = 1, no set", &a, at(0, 4, false, 1), 0, false)?;
-    case(rt, "g v = 3", &g, at(0, 2, false, 3), 1, false)?;
-    case(rt, "g v = 4", &g, at(0, 2, false, 4), 1, false)
-}
-
-// Line 13, and line 12 before it where both are given.
-fn no_edge(rt: &impl Print) -> io::Result<()> {
-    let e = samples::E;
-    let f = samples::F;
-    case(rt, "e 1 to 0", &e, at(1, 2, false, 0), 0, true)?;
-    case(rt, "e 0 to 1", &e, at(0, 2, false, 0), 1, false)?;
-    case(rt, "f 0 to 0", &f, at(0, 2, false, 0), 0, false)?;
-    case(rt, "e 1 to 0, t = n + 1", &e, at(1, 3, false, 0), 0, false)?;
-    case(rt, "e 1 to 0, v = 2^m", &e, at(1, 2, false, 2), 0, false)
-}
-
-// A refused table gives its own line, before 12 and 13.
-fn refused_tables(rt: &impl Print) -> io::Result<()> {
-    let e = samples::E;
-    let many = samples::TOO_MANY;
-    let mark = samples::WRONG_MARK;
-    case(rt, "27 bytes of e", &e[..27], at(1, 2, false, 0), 1, true)?;
-    case(rt, "n 65", &many, at(1, 2, false, 0), 1, true)?;
-    case(
-        rt,
-        "state 1 in set 1 of 1",
-        &mark,
-        at(1, 2, false, 0),
-        1,
-        true,
-    )?;
-    case(
-        rt,
-        "that, and t = n + 1",
-        &mark,
-        at(1, 3, false, 0),
-        1,
-        true,
-    )?;
-    case(rt, "that, and no edge", &mark, at(1, 2, false, 0), 0, true)
-}
+// A name, a table, a record as s t live v, the next state and the save wish.
+type Case = (&'static str, &'static [u8], [usize; 4], usize, bool);
 
 fn main(rt: HostRuntime) -> io::Result<()> {
-    saving(&rt)?;
-    bits(&rt)?;
-    goals(&rt)?;
-    wrong_records(&rt)?;
-    wrong_bits(&rt)?;
-    no_edge(&rt)?;
-    refused_tables(&rt)
+    let cases: &[Case] = &[
+        // The bits of the state that is saved count on the saving step; a wish where a state is saved already changes nothing.
+        ("e save at 1", &E, [1, 2, 0, 0], 1, true),
+        ("e no wish at 1", &E, [1, 2, 0, 0], 1, false),
+        ("e save at 0", &E, [0, 2, 0, 0], 1, true),
+        ("e wish, 0 saved", &E, [1, 0, 0, 0], 1, true),
+        ("e no wish, 0 saved", &E, [1, 0, 0, 0], 1, false),
+        ("e bit kept", &E, [0, 0, 0, 1], 1, false),
+        // No bits are set before the save, and all the bits of each state from it on.
+        ("f no bits before the save", &F, [0, 2, 0, 0], 1, false),
+        ("f save after that", &F, [1, 2, 0, 0], 1, true),
+        ("f save at 0", &F, [0, 2, 0, 0], 1, true),
+        ("g save at 0", &G, [0, 2, 0, 0], 1, true),
+        ("g second bit", &G, [1, 0, 0, 1], 0, false),
+        ("g both bits kept", &G, [0, 0, 0, 3], 1, false),
+        // The goal is that of the state that is left; a flag that is set stays set.
+        ("a into the goal", &A, [2, 4, 0, 0], 3, false),
+        ("a out of the goal", &A, [3, 4, 0, 0], 0, false),
+        ("a stays live", &A, [0, 4, 1, 0], 1, false),
+        ("a stays live, saving", &A, [1, 4, 1, 0], 2, true),
+        ("goal at the start", &START, [0, 2, 0, 0], 1, false),
+        ("goal at the start, saving", &START, [0, 2, 0, 0], 1, true),
+        ("d save", &D, [0, 1, 0, 0], 0, true),
+        // Line 12, one wrong part at a time and two, at the limits and far above.
+        ("e all parts at the limit", &E, [1, 2, 1, 1], 1, false),
+        ("e s = n", &E, [2, 2, 0, 0], 1, false),
+        ("e next = n", &E, [0, 2, 0, 0], 2, false),
+        ("e t = n + 1", &E, [0, 3, 0, 0], 1, false),
+        ("e v = 2^m", &E, [0, 2, 0, 2], 1, false),
+        ("e s = next = n", &E, [2, 2, 0, 0], 2, false),
+        ("e t and v", &E, [0, 3, 0, 2], 1, false),
+        ("e far above", &E, [FAR, FAR, 1, FAR], FAR, true),
+        // 2^m by the table's own m.
+        ("a v = 1, no set", &A, [0, 4, 0, 1], 0, false),
+        ("g v = 3", &G, [0, 2, 0, 3], 1, false),
+        ("g v = 4", &G, [0, 2, 0, 4], 1, false),
+        // Line 13, and line 12 before it where both are given.
+        ("e 1 to 0", &E, [1, 2, 0, 0], 0, true),
+        ("e 0 to 1", &E, [0, 2, 0, 0], 1, false),
+        ("f 0 to 0", &F, [0, 2, 0, 0], 0, false),
+        ("e 1 to 0, t = n + 1", &E, [1, 3, 0, 0], 0, false),
+        ("e 1 to 0, v = 2^m", &E, [1, 2, 0, 2], 0, false),
+        // A refused table gives its own line, before 12 and 13.
+        ("27 bytes of e", &E[..27], [1, 2, 0, 0], 1, true),
+        ("n 65", &TOO_MANY, [1, 2, 0, 0], 1, true),
+        ("state 1 in set 1 of 1", &WRONG_MARK, [1, 2, 0, 0], 1, true),
+        ("that, and t = n + 1", &WRONG_MARK, [1, 3, 0, 0], 1, true),
+        ("that, and no edge", &WRONG_MARK, [1, 2, 0, 0], 0, true),
+    ];
+    for &(name, table, [s, t, live, v], next, wish) in cases {
+        let r = Record {
+            s,
+            t,
+            live: live == 1,
+            v,
+        };
+        match stepping::step(table, r, next, wish) {
+            Stepped::Moved(Record { s, t, live, v }) => {
+                println!(rt; "{name}: {s} {t} {} {v}", u8::from(live))?;
+            }
+            Stepped::Refused(why) => println!(rt; "{name}: {}", Refused(why))?,
+        }
+    }
+    Ok(())
 }

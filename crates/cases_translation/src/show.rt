@@ -1,91 +1,72 @@
-// One line a case: its name and how many bytes are lent; `written` and how many, or `refused` number place; then what the output has.
-use super::pattern;
+// A case: one line with its name and how many bytes are lent; `written` and how many, or `refused` number place; then what the output has.
+use cases::{Numbers, Pattern, Refused};
 use std::io;
 use translation::Answer;
 
-fn text(rt: &impl Print, words: &str) -> io::Result<()> {
-    rt.print(words)
+// What the output has before a translation.
+pub(crate) const BEFORE: Pattern<u8> = Pattern {
+    first: 101,
+    step: 7,
+};
+
+// What a line ends with: how many bytes past the written ones are as before; that, and two sums; or all the bytes.
+#[derive(Clone, Copy)]
+pub(crate) enum End {
+    Kept,
+    Sums,
+    Whole,
 }
 
-fn wide_number(rt: &impl Print, before: &str, x: u64) -> io::Result<()> {
-    print!(rt; "{before}{x}")
+// The sum of all bytes, and the sum of the sums up to each byte, which goes by their order too.
+fn sums(out: &[u8]) -> (u64, u64) {
+    out.iter().fold((0, 0), |(sum, both), x| {
+        let sum = u64::from(*x).wrapping_add(sum);
+        (sum, sum.wrapping_add(both))
+    })
 }
 
-fn number(rt: &impl Print, before: &str, x: usize) -> io::Result<()> {
-    wide_number(rt, before, x as u64)
-}
-
-fn wide(x: u8) -> u64 {
-    x as u64
-}
-
-fn byte(rt: &impl Print, x: u8) -> io::Result<()> {
-    wide_number(rt, " ", wide(x))
-}
-
-// Writes all the bytes.
-fn bytes(rt: &impl Print, out: &[u8]) -> io::Result<()> {
-    for x in out {
-        byte(rt, *x)?;
-    }
-    Ok(())
-}
-
-// Writes the sum of all bytes, and the sum of the sums up to each byte, which goes by their order too.
-fn sums(rt: &impl Print, out: &[u8]) -> io::Result<()> {
-    let mut sum = 0u64;
-    let mut both = 0u64;
-    for x in out {
-        sum = sum.wrapping_add(wide(*x));
-        both = both.wrapping_add(sum);
-    }
-    wide_number(rt, ", sums ", sum)?;
-    wide_number(rt, " ", both)
-}
-
-// Writes the answer, and gives back how many bytes were written.
-fn answered(rt: &impl Print, answer: Answer) -> io::Result<usize> {
-    match answer {
-        Answer::Written(n) => {
-            number(rt, ": written ", n)?;
-            Ok(n)
-        }
-        Answer::Refused(why) => {
-            number(rt, ": refused ", why.number() as usize)?;
-            number(rt, " ", why.place())?;
-            Ok(0)
-        }
-    }
-}
-
-// Translates, and writes the line so far. Gives back how many bytes were written.
-fn translated(rt: &impl Print, name: &str, table: &[u8], out: &mut [u8]) -> io::Result<usize> {
-    text(rt, name)?;
-    number(rt, ", ", out.len())?;
-    text(rt, " bytes")?;
-    answered(rt, translation::translate(table, out))
-}
-
-// The line has the whole output.
-pub(crate) fn whole(rt: &impl Print, name: &str, table: &[u8], out: &mut [u8]) -> io::Result<()> {
-    translated(rt, name, table, out)?;
-    text(rt, ",")?;
-    bytes(rt, out)?;
-    text(rt, "\n")
-}
-
-// The line has how many bytes past the written ones are as the pattern has them, and the sums where they are wanted.
-pub(crate) fn kept(
+// Translates into this output, which had BEFORE at first, and prints the line.
+pub(crate) fn line(
     rt: &impl Print,
     name: &str,
     table: &[u8],
     out: &mut [u8],
-    summed: bool,
+    end: End,
 ) -> io::Result<()> {
-    let n = translated(rt, name, table, out)?;
-    number(rt, ", kept ", pattern::kept(out, n))?;
-    if summed {
-        sums(rt, out)?;
+    print!(rt; "{name}, {} bytes: ", out.len())?;
+    let written = match translation::translate(table, out) {
+        Answer::Written(n) => {
+            print!(rt; "written {n}")?;
+            n
+        }
+        Answer::Refused(why) => {
+            print!(rt; "{}", Refused(why))?;
+            0
+        }
+    };
+    let kept = BEFORE.kept(out, written);
+    match end {
+        End::Kept => println!(rt; ", kept {kept}"),
+        End::Sums => {
+            let (sum, both) = sums(out);
+            println!(rt; ", kept {kept}, sums {sum} {both}")
+        }
+        End::Whole => println!(rt; ",{}", Numbers(out)),
     }
-    text(rt, "\n")
+}
+
+// The same with the first n bytes of the room, which is that long, and BEFORE in them.
+pub(crate) fn case(
+    rt: &impl Print,
+    name: &str,
+    table: &[u8],
+    room: &mut [u8],
+    n: usize,
+    end: End,
+) -> io::Result<()> {
+    if let Some(out) = room.get_mut(..n) {
+        BEFORE.fill(out);
+        line(rt, name, table, out, end)?;
+    }
+    Ok(())
 }
