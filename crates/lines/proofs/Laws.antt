@@ -1,8 +1,7 @@
 -- The lines, part by part, as the proofs cite them: what is written is the line of docs/RULES.md, "What the programs print". Then that the two
 -- statements settle what is written. Assumes nothing.
-use Rattle.std.specs.Prelude.{◌≡◌, refl, List, [], ◌∷◌, ◌++◌, ℕ, suc, ◌+◌, ◌≤◌, ◌<◌, length, take, drop}
+use Rattle.std.specs.Prelude.{◌≡◌, refl, List, [], ◌∷◌, ◌++◌, ℕ, suc, ◌+◌, ◌≤◌, ◌<◌, length, take, drop, Option, None, Some}
 use Rattle.std.proofs.Common.{sym, ap, ◌∙◌, subst, arith, lt-ltb, le-ltb, length-append}
-use Rattle.std.proofs.Math.Option.{Option, none, some}
 use Rattle.table.specs.Refusals.{number_of, place_of}
 use Rattle.table.specs.declared.Table.{Table}
 use Rattle.table.specs.declared.refusal.Refusal.{Refusal}
@@ -66,8 +65,8 @@ unfolding SearchSays
 run_fits b work report a work' report' s = go a (refusal_of b work report) s
   where
     go : (a : Answer) (o : Option Refusal) → SearchFor o b work report a work' report' → RunFits a report'
-    go (Lasso k l) none ((ss, e, least, r), c) = omega (arith, ap length r, length-append ss (drop (length ss) report), e)
-    go (Lasso k l) (some why) (e, c, d) = absurd (let z : ◌≡◌ {A = ℕ} 0 1 = cc in omega arith)
+    go (Lasso k l) None ((ss, e, least, r), c) = omega (arith, ap length r, length-append ss (drop (length ss) report), e)
+    go (Lasso k l) (Some why) (e, c, d) = absurd (let z : ◌≡◌ {A = ℕ} 0 1 = cc in omega arith)
     go Holds o s = tt
     go (Refused why) o s = tt
 

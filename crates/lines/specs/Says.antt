@@ -1,6 +1,5 @@
 -- What the two functions behind the programs say. docs/RULES.md, "What the programs print". Definitions only. Assumes nothing.
-use Rattle.std.specs.Prelude.{List, ℕ, ◌<◌, length}
-use Rattle.std.proofs.Math.Option.{Option, none, some}
+use Rattle.std.specs.Prelude.{List, ℕ, ◌<◌, length, Option, None, Some}
 use Rattle.recorder.specs.Flag.{live_flag}
 use Rattle.table.specs.declared.refusal.Refusal.{Refusal}
 use Rattle.quote.specs.Quote.{quote_of}
@@ -25,8 +24,8 @@ VerdictSays b work report out r work' report' out' =
 
 -- the translated table, or the line of a refusal
 abbrev pub translated_or : List ℕ → Option Refusal → List ℕ
-translated_or b none = file_of live_flag b
-translated_or b (some why) = refused_line why
+translated_or b None = file_of live_flag b
+translated_or b (Some why) = refused_line why
 
 -- the output has the translated table where there is room for it, or else the `refused` line
 abbrev pub TranslateWrites : List ℕ → List ℕ → ℕ → List ℕ → Type 0

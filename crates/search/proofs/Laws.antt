@@ -3,7 +3,6 @@
 use Rattle.std.specs.Prelude.{◌≡◌, Bool, List, [], ◌∷◌, ◌++◌, ℕ, ◌*◌, ◌≤◌, ◌<◌, ltb, length, drop, Option, Some, None, Result, Ok, Err}
 use Rattle.std.proofs.Math.Path.{refl}
 use Rattle.std.proofs.Common.{sym, ap, ap₂, ◌∙◌, arith, lt-ltb, le-ltb}
-use Rattle.std.proofs.Math.Option.{Option as Maybe, none, some}
 use Rattle.recorder.specs.Block.{Block, Sound}
 use Rattle.recorder.proofs.Least.{least_of_block}
 use Rattle.recorder.specs.Slots.{slot_count}
@@ -15,8 +14,6 @@ use Rattle.table.specs.BlockOf.{block_of}
 use Rattle.table.proofs.WellFormed.{well_formed, laid}
 use Rattle.table.proofs.Sound.{sound}
 use Rattle.table.specs.declared.Table.{Table}
-use Rattle.table.specs.declared.Opened.{Opened}
-use Rattle.table.specs.declared.Opened.TheVariants.{Accepted, Refused as TableRefused}
 use Rattle.table.specs.declared.refusal.Refusal.{Refusal}
 use Rattle.table.specs.declared.refusal.Refusal.TheVariants.{WrongMark, ShortWorkspace, ShortReport}
 use Rattle.table.specs.Recording.{slots_of}
@@ -29,15 +26,15 @@ module _ (b work report : List ℕ) where
   -- ---- the answer, line by line
 
   -- a refused search
-  refused_says : (why : Refusal) → refusal_of b work report ≡ some why → SearchSays b work report (Err why) work report
+  refused_says : (why : Refusal) → refusal_of b work report ≡ Some why → SearchSays b work report (Err why) work report
   unfolding SearchSays
   refused_says why e = rw e (refl, refl, refl)
 
-  pub table_refused : (why : Refusal) → open_of b ≡ TableRefused why → SearchSays b work report (Err why) work report
+  pub table_refused : (why : Refusal) → open_of b ≡ Err why → SearchSays b work report (Err why) work report
   unfolding refusal_of
   table_refused why o = refused_says why (rw o)
 
-  module _ (t : Table) (o : open_of b ≡ Accepted t) where
+  module _ (t : Table) (o : open_of b ≡ Ok t) where
     -- the two lines, by what their tests give
     lines_are : {u v : Bool} → ltb (length work) (2 * slots_of b) ≡ u → ltb (length report) (slots_of b) ≡ v
         → refusal_of b work report ≡ first_given (given u ShortWorkspace ∷ given v ShortReport ∷ [])
@@ -94,11 +91,11 @@ pub search_unique : (b work report : List ℕ) (a a' : Result (Option Lasso) Ref
 unfolding SearchSays refusal_of
 search_unique b work report a a' w w' r r' = go (open_of b) refl
   where
-    lines : Sound (block_of b) → (o : Maybe Refusal) → SearchFor o b work report a w r → SearchFor o b work report a' w' r' → (a ≡ a') × (w ≡ w') × (r ≡ r')
-    lines ok (some why) (p, q, s) (p', q', s') = (p ∙ sym p', q ∙ sym q', s ∙ sym s')
-    lines ok none (x, d, h, e) (x', d', h', e') =
+    lines : Sound (block_of b) → (o : Option Refusal) → SearchFor o b work report a w r → SearchFor o b work report a' w' r' → (a ≡ a') × (w ≡ w') × (r ≡ r')
+    lines ok (Some why) (p, q, s) (p', q', s') = (p ∙ sym p', q ∙ sym q', s ∙ sym s')
+    lines ok None (x, d, h, e) (x', d', h', e') =
         let (p, q) = answer_unique (block_of b) ok report x x' r r' h h' in (d ∙ ap (λ (x : Option Lasso). Ok x) p ∙ sym d', e ∙ sym e', q)
 
-    go : (x : Opened) → open_of b ≡ x → SearchSays b work report a w r → SearchSays b work report a' w' r' → (a ≡ a') × (w ≡ w') × (r ≡ r')
-    go (TableRefused why) o h h' = let (p, q, s) = rw o at h in let (p', q', s') = rw o at h' in (p ∙ sym p', q ∙ sym q', s ∙ sym s')
-    go (Accepted t) o h h' = lines (sound b (well_formed b t o)) (refusal_of b work report) h h'
+    go : (x : Result Table Refusal) → open_of b ≡ x → SearchSays b work report a w r → SearchSays b work report a' w' r' → (a ≡ a') × (w ≡ w') × (r ≡ r')
+    go (Err why) o h h' = let (p, q, s) = rw o at h in let (p', q', s') = rw o at h' in (p ∙ sym p', q ∙ sym q', s ∙ sym s')
+    go (Ok t) o h h' = lines (sound b (well_formed b t o)) (refusal_of b work report) h h'

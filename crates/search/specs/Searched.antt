@@ -1,7 +1,6 @@
 -- What a search says. docs/RULES.md, "Lasso and choice", lines 9 and 10 of "Refusal list", and "Buffers". Definitions only.
 -- Assumes nothing.
 use Rattle.std.specs.Prelude.{◌≡◌, List, [], ◌∷◌, ◌++◌, ℕ, suc, ◌*◌, ltb, length, drop, Option, Some, None, Result, Ok, Err}
-use Rattle.std.proofs.Math.Option.{Option as Maybe, none, some}
 use Rattle.recorder.specs.Block.{Block}
 use Rattle.recorder.specs.Lasso.{LeastLasso, NoLasso}
 use Rattle.table.specs.Open.{refusal_for, open_of}
@@ -14,10 +13,10 @@ use Rattle.writing.specs.Cleared.{cleared}
 use Rattle.search.specs.declared.Lasso.{Lasso}
 
 -- lines 9 and 10, in the list's order: fewer than 2S workspace words, fewer than S report words
-unfoldable pub search_lines : ℕ → List ℕ → List ℕ → List (Maybe Refusal)
+unfoldable pub search_lines : ℕ → List ℕ → List ℕ → List (Option Refusal)
 search_lines S work report = given (ltb (length work) (2 * S)) ShortWorkspace ∷ given (ltb (length report) S) ShortReport ∷ []
 
-unfoldable pub refusal_of : List ℕ → List ℕ → List ℕ → Maybe Refusal
+unfoldable pub refusal_of : List ℕ → List ℕ → List ℕ → Option Refusal
 refusal_of b work report = refusal_for (open_of b) (search_lines (slots_of b) work report)
 
 -- Of a block: a lasso is its least lasso s0..sk, and the report's first k + 1 words are its states and the rest unchanged. None means that it has
@@ -27,9 +26,9 @@ AnswerSays B report (Some x) report' = (ss : List ℕ) × (length ss ≡ suc x.k
 AnswerSays B report None report' = NoLasso B × (report' ≡ report)
 
 -- A refused search changes no buffer. After any other the workspace's first 2S words are zero and the rest unchanged.
-abbrev pub SearchFor : Maybe Refusal → List ℕ → List ℕ → List ℕ → Result (Option Lasso) Refusal → List ℕ → List ℕ → Type 0
-SearchFor (some why) b work report a work' report' = (a ≡ Err why) × (work' ≡ work) × (report' ≡ report)
-SearchFor none b work report a work' report' =
+abbrev pub SearchFor : Option Refusal → List ℕ → List ℕ → List ℕ → Result (Option Lasso) Refusal → List ℕ → List ℕ → Type 0
+SearchFor (Some why) b work report a work' report' = (a ≡ Err why) × (work' ≡ work) × (report' ≡ report)
+SearchFor None b work report a work' report' =
     (x : Option Lasso) × (a ≡ Ok x) × AnswerSays (block_of b) report x report' × (work' ≡ cleared (2 * slots_of b) work)
 
 -- searching the bytes b with these buffers answers a and leaves the buffers as work' and report'

@@ -9,7 +9,7 @@ mod starts;
 ghost use Rattle.search.specs.Searched.{SearchSays};
 ghost use Rattle.search.specs.Find.{FindAsks, FindSays};
 
-use table::{Opened, Refusal, Table};
+use table::{Refusal, Table};
 
 // The least lasso: its length k and its loop place l.
 #[derive(Clone, Copy)]
@@ -43,10 +43,7 @@ fn find(bytes: &[u8], t: Table, work: &mut [u32], report: &mut [u32], slots: usi
 pub fn search(bytes: &[u8], work: &mut [u32], report: &mut [u32]) -> Result<Option<Lasso>, Refusal>
     ensures { SearchSays bytes.now work.old report.old result work.new report.new }
 {
-    let answer = opening::open(bytes);
-    let Opened::Accepted(t) = answer else {
-        return Err(opening::why(answer));
-    };
+    let t = opening::open(bytes)?;
     let slots = recorder::slot_count(t.states, t.sets);
     if work.len() < 2 * slots {
         return Err(Refusal::ShortWorkspace);

@@ -1,10 +1,9 @@
 -- Laws of a translation: its answer line by line of the refusal list, its output part by part, and that its statement settles both.
 -- docs/RULES.md, "Refusal list" and "Strength of the statements". Assumes nothing.
-use Rattle.std.specs.Prelude.{◌≡◌, refl, ℕ, suc, ◌+◌, ◌-◌, ◌*◌, ◌^◌, ◌≤◌, ◌<◌, ltb, take, Result, Ok, Err}
+use Rattle.std.specs.Prelude.{◌≡◌, refl, ℕ, suc, ◌+◌, ◌-◌, ◌*◌, ◌^◌, ◌≤◌, ◌<◌, ltb, take, Result, Ok, Err, Option, None, Some}
 use Rattle.std.proofs.Common.{sym, ◌∙◌, arith, length-append}
 use Rattle.std.proofs.Math.Path.{ap, ap₂}
 use mathlib.Core.List.{List, [], ◌++◌}
-use Rattle.std.proofs.Math.Option.{Option, none, some}
 use Rattle.std.proofs.Math.ListN.{length, drop}
 use borrow.Author.Tests.{lt-ltb, le-ltb}
 use Rattle.recorder.specs.Flag.{live_flag}
@@ -19,7 +18,6 @@ use Rattle.table.proofs.InOrder.{line, by_the_list}
 use Rattle.table.specs.WellFormed.{WellFormed}
 use Rattle.table.proofs.WellFormed.{well_formed, laid}
 use Rattle.table.specs.declared.Table.{Table}
-use Rattle.table.specs.declared.Opened.TheVariants.{Accepted, Refused}
 use Rattle.table.specs.declared.refusal.Refusal.{Refusal}
 use Rattle.table.specs.declared.refusal.Refusal.TheVariants.{WrongMark, ShortOutput}
 use Rattle.table.specs.Recording.{slots_of}
@@ -36,15 +34,15 @@ use Rattle.translation.specs.Translated.{size_of, translate_lines, refusal_of, T
 -- ---- the answer, line by line
 
 module _ (b out : List ℕ) where
-  refused_says : (why : Refusal) → refusal_of b out ≡ some why → TranslateSays b out (Err why) out
+  refused_says : (why : Refusal) → refusal_of b out ≡ Some why → TranslateSays b out (Err why) out
   unfolding TranslateSays
   refused_says why e = rw e (refl, refl)
 
-  pub table_refused : (why : Refusal) → open_of b ≡ Refused why → TranslateSays b out (Err why) out
+  pub table_refused : (why : Refusal) → open_of b ≡ Err why → TranslateSays b out (Err why) out
   unfolding refusal_of
   table_refused why o = refused_says why (rw o)
 
-  module _ (t : Table) (o : open_of b ≡ Accepted t) where
+  module _ (t : Table) (o : open_of b ≡ Ok t) where
     short_output : length out < size_of b → TranslateSays b out (Err ShortOutput) out
     unfolding refusal_of translate_lines
     short_output h = refused_says ShortOutput (rw (o, lt-ltb (length out) (size_of b) h))
@@ -67,14 +65,14 @@ unfolding TranslateSays
 translate_unique b out a a' w w' = go (refusal_of b out)
   where
     go : (o : Option Refusal) → TranslateFor o b out a w → TranslateFor o b out a' w' → (a ≡ a') × (w ≡ w')
-    go (some why) (p, q) (p', q') = (p ∙ sym p', q ∙ sym q')
-    go none (p, q) (p', q') = (p ∙ sym p', q ∙ sym q')
+    go (Some why) (p, q) (p', q') = (p ∙ sym p', q ∙ sym q')
+    go None (p, q) (p', q') = (p ∙ sym p', q ∙ sym q')
 
 -- ---- the output, part by part
 
 -- the table t is accepted, and the code has counted its slots and its edges
 pub record Counted (b : List ℕ) (t : Table) (S E : ℕ) : Type 0 where
-  pub opened : open_of b ≡ Accepted t
+  pub opened : open_of b ≡ Ok t
   pub slots_by : S ≡ slot_count t.states t.sets
   pub edges_by : E ≡ edge_count t.states t.edges t.sets
 

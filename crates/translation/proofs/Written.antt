@@ -1,9 +1,8 @@
 -- Laws of specs/Written.antt. Assumes nothing.
-use Rattle.std.specs.Prelude.{◌≡◌, Bool, List, [], ◌∷◌, ◌++◌, ℕ, ◌+◌, Ok, Err}
+use Rattle.std.specs.Prelude.{◌≡◌, Bool, List, [], ◌∷◌, ◌++◌, ℕ, ◌+◌, Ok, Err, Option, None, Some, Result}
 use Rattle.std.proofs.Math.Path.{refl, ap, sym}
 use Rattle.std.proofs.Common.{◌∙◌}
 use Rattle.std.proofs.Math.Bool.{true, false}
-use Rattle.std.proofs.Math.Option.{Option, none, some}
 use native.Mathlib.Omega.{arith}
 use borrow.Author.Tests.{ltb-false}
 use Rattle.std.proofs.Math.Dec.{ltb}
@@ -14,8 +13,6 @@ use Rattle.table.specs.Open.{open_of}
 use Rattle.table.specs.Given.{given, first_given}
 use Rattle.table.specs.WellFormed.{WellFormed}
 use Rattle.table.proofs.WellFormed.{well_formed}
-use Rattle.table.specs.declared.Opened.{Opened}
-use Rattle.table.specs.declared.Opened.TheVariants.{Accepted, Refused}
 use Rattle.table.specs.declared.refusal.Refusal.{Refusal}
 use Rattle.table.specs.declared.refusal.Refusal.TheVariants.{ShortOutput}
 use Rattle.writing.specs.Placed.{placed}
@@ -25,6 +22,7 @@ use Rattle.translation.specs.Demand3.{Translates}
 use Rattle.translation.proofs.Demand3.{translates_live}
 use Rattle.translation.specs.Translated.{size_of, translate_lines, refusal_of, TranslateFor, TranslateSays}
 use Rattle.translation.specs.Written.{WrittenSays}
+use Rattle.table.specs.declared.Table.{Table}
 
 module _ (b out : List ℕ) (size : ℕ) (out' : List ℕ) where
   pub written_says : TranslateSays b out (Ok size) out' → WrittenSays b out size out'
@@ -40,9 +38,9 @@ module _ (b out : List ℕ) (size : ℕ) (out' : List ℕ) where
           let z : size_of b ≡ 0 + length (file_of live_flag b) = omega arith in
           record { sound = f; given = r; size_is = l ∙ sym k; room = omega (arith, ltb-false (length out) (size_of b) e); has = d ∙ ap (λ (k : ℕ). file_of live_flag b ++ drop k out) z }
 
-      go : (x : Opened) → open_of b ≡ x → TranslateSays b out (Ok size) out' → WrittenSays b out size out'
-      go (Refused why) o h = let (w, d) = rw o at h in absurd (cc)
-      go (Accepted t) o h = lines (well_formed b t o) (ltb (length out) (size_of b)) refl (rw o) (rw o at h)
+      go : (x : Result Table Refusal) → open_of b ≡ x → TranslateSays b out (Ok size) out' → WrittenSays b out size out'
+      go (Err why) o h = let (w, d) = rw o at h in absurd (cc)
+      go (Ok t) o h = lines (well_formed b t o) (ltb (length out) (size_of b)) refl (rw o) (rw o at h)
 
   pub written_translates : TranslateSays b out (Ok size) out' → Translates b (take size out')
   unfolding placed
@@ -54,10 +52,10 @@ module _ (b out : List ℕ) (size : ℕ) (out' : List ℕ) where
       rw is (translates_live b s.sound)
 
 -- a refusal leaves the output as it was
-pub refused_leaves : (b out : List ℕ) (why : Refusal) (out' : List ℕ) → TranslateSays b out (Err why) out' → (refusal_of b out ≡ some why) × (out' ≡ out)
+pub refused_leaves : (b out : List ℕ) (why : Refusal) (out' : List ℕ) → TranslateSays b out (Err why) out' → (refusal_of b out ≡ Some why) × (out' ≡ out)
 unfolding TranslateSays
 refused_leaves b out why out' h = go (refusal_of b out) refl h
   where
-    go : (o : Option Refusal) → refusal_of b out ≡ o → TranslateFor o b out (Err why) out' → (refusal_of b out ≡ some why) × (out' ≡ out)
-    go none e (r, d) = absurd (cc)
-    go (some why') e (r, d) = (cc, d)
+    go : (o : Option Refusal) → refusal_of b out ≡ o → TranslateFor o b out (Err why) out' → (refusal_of b out ≡ Some why) × (out' ≡ out)
+    go None e (r, d) = absurd (cc)
+    go (Some why') e (r, d) = (cc, d)

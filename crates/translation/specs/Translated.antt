@@ -1,7 +1,6 @@
 -- What a translation says. docs/RULES.md, "Refusal list", line 11, and "Buffers": "Translate changes exactly the first 32 + 5S + 4E bytes".
 -- Definitions only. Assumes nothing.
-use Rattle.std.specs.Prelude.{◌≡◌, List, [], ◌∷◌, ◌++◌, ℕ, ltb, length, drop, Result, Ok, Err}
-use Rattle.std.proofs.Math.Option.{Option, none, some}
+use Rattle.std.specs.Prelude.{◌≡◌, List, [], ◌∷◌, ◌++◌, ℕ, ltb, length, drop, Result, Ok, Err, Option, None, Some}
 use Rattle.recorder.specs.Flag.{live_flag}
 use Rattle.table.specs.Layout.{states_of, edges_of, sets_of}
 use Rattle.table.specs.Open.{refusal_for, open_of}
@@ -26,8 +25,8 @@ refusal_of b out = refusal_for (open_of b) (translate_lines (size_of b) out)
 -- A refused translation changes nothing. Any other writes the translated table over the first bytes of the output, as many as it has, and the rest
 -- stays; the answer is that number.
 abbrev pub TranslateFor : Option Refusal → List ℕ → List ℕ → Result ℕ Refusal → List ℕ → Type 0
-TranslateFor (some why) b out a out' = (a ≡ Err why) × (out' ≡ out)
-TranslateFor none b out a out' = (a ≡ Ok (size_of b)) × (out' ≡ file_of live_flag b ++ drop (size_of b) out)
+TranslateFor (Some why) b out a out' = (a ≡ Err why) × (out' ≡ out)
+TranslateFor None b out a out' = (a ≡ Ok (size_of b)) × (out' ≡ file_of live_flag b ++ drop (size_of b) out)
 
 -- translating the bytes b into the output answers a and leaves the output as out'
 unfoldable pub TranslateSays : List ℕ → List ℕ → Result ℕ Refusal → List ℕ → Type 0

@@ -8,16 +8,13 @@ mod targets;
 
 ghost use Rattle.translation.specs.Translated.{TranslateSays};
 
-use table::{Opened, Refusal};
+use table::Refusal;
 
 // Translates the table in the bytes into the output, where it has room, and answers how many bytes were written.
 pub fn translate(bytes: &[u8], out: &mut [u8]) -> Result<usize, Refusal>
     ensures { TranslateSays bytes.now out.old result out.new }
 {
-    let answer = opening::open(bytes);
-    let Opened::Accepted(t) = answer else {
-        return Err(opening::why(answer));
-    };
+    let t = opening::open(bytes)?;
     let slots = recorder::slot_count(t.states, t.sets);
     let edges = quote::edge_count(t.states, t.edges, t.sets);
     let targets = 32 + 4 * slots;
