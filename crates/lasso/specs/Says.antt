@@ -1,14 +1,14 @@
 -- What the five exported jobs say. proofs/Says.antt has that each statement settles number, words and buffers.
 -- docs/RULES.md, "Strength of the statements". Assumes nothing.
-use Rattle.std.specs.Prelude.{◌≡◌, Bool, List, ℕ}
+use Rattle.std.specs.Prelude.{Option, Result, ◌≡◌, Bool, List, ℕ}
 use Rattle.recorder.specs.declared.Record.{Record}
 use Rattle.table.specs.Open.{open_of}
 use Rattle.quote.specs.Quote.{quote_of}
 use Rattle.stepping.specs.Step.{stepped_of}
 use Rattle.search.specs.Searched.{SearchSays}
-use Rattle.search.specs.declared.Answer.{Answer as Searched}
+use Rattle.search.specs.declared.Lasso.{Lasso}
 use Rattle.translation.specs.Translated.{TranslateSays}
-use Rattle.translation.specs.declared.Answer.{Answer as Translated}
+use Rattle.table.specs.declared.refusal.Refusal.{Refusal}
 use Rattle.lasso.specs.Words.{open_number, open_words, quote_number, quote_words, step_number, step_words, search_number, search_words, translate_number, translate_words}
 
 -- the number and the words are those of opening's answer, of the quote, of the step's answer
@@ -24,9 +24,9 @@ StepSaid b r s' wish number words = (number ≡ step_number (stepped_of b r s' w
 -- the number and the words are those of an answer that the search may give
 abbrev pub SearchSaid : List ℕ → List ℕ → List ℕ → ℕ → List ℕ → List ℕ → List ℕ → Type 0
 SearchSaid b work report number words work' report' =
-    (a : Searched) × SearchSays b work report a work' report' × ((number ≡ search_number a) × (words ≡ search_words a))
+    (a : Result (Option Lasso) Refusal) × SearchSays b work report a work' report' × ((number ≡ search_number a) × (words ≡ search_words a))
 
 -- the number and the words are those of an answer that the translation may give
 abbrev pub TranslateSaid : List ℕ → List ℕ → ℕ → List ℕ → List ℕ → Type 0
 TranslateSaid b out number words out' =
-    (a : Translated) × TranslateSays b out a out' × ((number ≡ translate_number a) × (words ≡ translate_words a))
+    (a : Result ℕ Refusal) × TranslateSays b out a out' × ((number ≡ translate_number a) × (words ≡ translate_words a))

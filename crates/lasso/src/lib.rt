@@ -3,33 +3,29 @@
 // stands in specs/Words.antt, and for C in bindings/lasso.h.
 #![tactic(auto)]
 
-ghost use Rattle.std.specs.Prelude.{◌≡◌};
-ghost use Rattle.lasso.specs.Words.{open_number, open_place};
+ghost use Rattle.std.specs.Prelude.{◌≡◌, ◌<◌, [], ◌∷◌};
+ghost use Rattle.lasso.specs.Words.{number_told, words_told, open_row, quote_row, found_row, step_row};
 ghost use Rattle.lasso.specs.Says.{OpenSaid, QuoteSaid, SearchSaid, TranslateSaid, StepSaid};
 
 use recorder::Record;
-use search::Answer as Searched;
-use stepping::Stepped;
-use table::Opened;
-use translation::Answer as Translated;
+use table::Refusal;
 
-// 0 for an accepted table, or the number of its refusal.
-fn number_of(opened: Opened) -> u32
-    ensures { result ≡ open_number opened }
+// Fills the words of the answer: those of the job's value, or the refusal's place and then zeros. Returns 0 or the refusal's number.
+fn tell<const N: usize>(said: Result<[usize; N], Refusal>, answer: &mut [usize; N]) -> u32
+    requires { 0 < N }
+    ensures number { result ≡ number_told said.entry }
+    ensures words { answer.new ≡ words_told N (λ words. words) said.entry }
 {
-    match opened {
-        Opened::Accepted(_) => 0,
-        Opened::Refused(why) => why.number(),
-    }
-}
-
-// 0 for an accepted table, or the place of its refusal.
-fn place_of(opened: Opened) -> usize
-    ensures { result ≡ open_place opened }
-{
-    match opened {
-        Opened::Accepted(_) => 0,
-        Opened::Refused(why) => why.place(),
+    match said {
+        Ok(words) => {
+            *answer = words;
+            0
+        }
+        Err(why) => {
+            answer.fill(0);
+            answer[0] = why.place();
+            why.number()
+        }
     }
 }
 
@@ -39,13 +35,12 @@ pub extern "C" fn lasso_open(table: &[u8], answer: &mut [usize; 4]) -> u32
     ensures { OpenSaid table.now result answer.new }
 {
     let opened = opening::open(table);
-    let Opened::Accepted(t) = opened else {
-        let why = opening::why(opened);
-        *answer = [why.place(), 0, 0, 0];
-        return why.number();
-    };
-    *answer = [0, t.states, t.edges, t.sets];
-    0
+    let said = opened.map(
+        |t|
+            ensures { result ≡ open_row t }
+        { [0, t.states, t.edges, t.sets] },
+    );
+    tell(said, answer)
 }
 
 // Prices the table.
@@ -54,21 +49,26 @@ pub extern "C" fn lasso_quote(table: &[u8], answer: &mut [usize; 9]) -> u32
     ensures { QuoteSaid table.now result answer.new }
 {
     let quoted = quote::quote(table);
-    let opened = quoted.answer;
-    let sheet = quoted.sheet;
-    let members = sheet.members;
-    *answer = [
-        place_of(opened),
-        sheet.slots,
-        sheet.edges,
-        sheet.bytes,
-        sheet.board,
-        members[0],
-        members[1],
-        members[2],
-        members[3],
-    ];
-    number_of(opened)
+    let said = quoted.map(
+        |q|
+            ensures { result ≡ quote_row q }
+        {
+            let s = q.sheet;
+            let m = s.members;
+            [
+                0,
+                s.slots,
+                s.edges,
+                s.bytes,
+                s.board.unwrap_or(8),
+                m[0],
+                m[1],
+                m[2],
+                m[3],
+            ]
+        },
+    );
+    tell(said, answer)
 }
 
 // Searches the table for its least lasso.
@@ -81,20 +81,18 @@ pub extern "C" fn lasso_search(
 ) -> u32
     ensures { SearchSaid table.now work.old report.old result answer.new work.new report.new }
 {
-    match search::search(table, work, report) {
-        Searched::Lasso { k, l } => {
-            *answer = [0, 1, k, l];
-            0
-        }
-        Searched::Holds => {
-            *answer = [0, 0, 0, 0];
-            0
-        }
-        Searched::Refused(why) => {
-            *answer = [why.place(), 0, 0, 0];
-            why.number()
-        }
-    }
+    let searched = search::search(table, work, report);
+    let said = searched.map(
+        |found|
+            ensures { result ≡ found_row found }
+        {
+            match found {
+                Some(lasso) => [0, 1, lasso.k, lasso.l],
+                None => [0, 0, 0, 0],
+            }
+        },
+    );
+    tell(said, answer)
 }
 
 // Translates the table into the output.
@@ -102,16 +100,13 @@ pub extern "C" fn lasso_search(
 pub extern "C" fn lasso_translate(table: &[u8], out: &mut [u8], answer: &mut [usize; 2]) -> u32
     ensures { TranslateSaid table.now out.old result answer.new out.new }
 {
-    match translation::translate(table, out) {
-        Translated::Written(size) => {
-            *answer = [0, size];
-            0
-        }
-        Translated::Refused(why) => {
-            *answer = [why.place(), 0];
-            why.number()
-        }
-    }
+    let translated = translation::translate(table, out);
+    let said = translated.map(
+        |size|
+            ensures { result ≡ 0 ∷ size ∷ [] }
+        { [0, size] },
+    );
+    tell(said, answer)
 }
 
 // Moves the record of s, t, live and v along the edge to `next`, with a save wish.
@@ -128,14 +123,11 @@ pub extern "C" fn lasso_step(
 ) -> u32
     ensures { StepSaid table.now (record { s = s; t = t; live = live; v = v }) next wish result answer.new }
 {
-    match stepping::step(table, Record { s, t, live, v }, next, wish) {
-        Stepped::Moved(r) => {
-            *answer = [0, r.s, r.t, r.live as usize, r.v];
-            0
-        }
-        Stepped::Refused(why) => {
-            *answer = [why.place(), 0, 0, 0, 0];
-            why.number()
-        }
-    }
+    let stepped = stepping::step(table, Record { s, t, live, v }, next, wish);
+    let said = stepped.map(
+        |r|
+            ensures { result ≡ step_row r }
+        { [0, r.s, r.t, usize::from(r.live), r.v] },
+    );
+    tell(said, answer)
 }
