@@ -87,6 +87,7 @@ pub fn read_table<R: io::Read, E: io::Write>(
     ensures counts { IsPrefixLen (count_of result) table.new }
     ensures bytes { Consumes (R.remaining input.old) (R.remaining input.new) (take (count_of result) table.new) }
     ensures all { IfOk result (λ n. (n ≡ 4449) ⊎ IsAtEnd (R.remaining input.new)) }
+    ensures retried { IfErr result (λ unread. error_kind unread.reason ≢ ErrorKind.Interrupted) }
     ensures quiet { OnOk result (errors.new ≡ errors.old) }
 {
     let read = read_all(input, table);
