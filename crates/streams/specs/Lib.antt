@@ -1,2 +1,2 @@
 -- How many bytes came in a read, whether it failed or not. Assumes nothing.
-pub mod Known
+pub mod Counted

@@ -8,7 +8,8 @@ ghost use Rattle.std.specs.Prelude.{◌≡◌, ◌≢◌, ◌⊎◌, length, tak
 ghost use Rattle.std.specs.Io.KnownBytes.{Appends, Consumes, IsAtEnd};
 ghost use Rattle.std.specs.IoError.{error_kind};
 ghost use Rattle.io.specs.Counts.{IsPrefixLen};
-ghost use Rattle.streams.specs.Known.{count_of};
+ghost use Rattle.streams.specs.Counted.{count_of};
+ghost use Rattle.streams.specs.declared.Failed.TheVariants.{Reading, Writing};
 
 use std::io;
 use std::io::{ErrorKind, Write};
@@ -20,8 +21,32 @@ pub struct Unread {
     pub reason: io::Error,
 }
 
+// Why a program failed: in reading its table, or in writing what it made of it.
+#[derive(Clone, Copy)]
+pub enum Failed {
+    Reading(Unread),
+    Writing(io::Error),
+}
+
+impl From<Unread> for Failed {
+    ghost from_gives = { λ unread failed. failed ≡ Reading unread };
+
+    fn from(unread: Unread) -> Failed {
+        Failed::Reading(unread)
+    }
+}
+
+impl From<io::Error> for Failed {
+    ghost from_gives = { λ reason failed. failed ≡ Writing reason };
+
+    fn from(reason: io::Error) -> Failed {
+        Failed::Writing(reason)
+    }
+}
+
 // Reads until the input ends or the buffer is full, and answers how many bytes came. A pipe may deliver fewer bytes at a time than there is room for.
-// A read that a signal interrupts is made again. A proved loop has to end, so it counts its turns up to a number that no run reaches.
+// A read that a signal interrupts is made again, and is never the reason of a failure. A proved loop has to end, so its turns are counted, up to a
+// number that no run reaches.
 fn read_all<R: io::Read>(input: &mut R, table: &mut [u8; 4449]) -> Result<usize, Unread>
     ensures counts { IsPrefixLen (count_of result) table.new }
     ensures bytes { Consumes (R.remaining input.old) (R.remaining input.new) (take (count_of result) table.new) }
@@ -45,25 +70,6 @@ fn read_all<R: io::Read>(input: &mut R, table: &mut [u8; 4449]) -> Result<usize,
     Err(Unread { count, reason })
 }
 
-// Why a table was not read, or what was made of it not written.
-#[derive(Clone, Copy)]
-pub enum Failed {
-    Unread(Unread),
-    Unwritten(io::Error),
-}
-
-impl From<Unread> for Failed {
-    fn from(unread: Unread) -> Failed {
-        Failed::Unread(unread)
-    }
-}
-
-impl From<io::Error> for Failed {
-    fn from(reason: io::Error) -> Failed {
-        Failed::Unwritten(reason)
-    }
-}
-
 // Writes the line `why` with the reason.
 fn tell<E: io::Write>(errors: &mut E, why: &[u8], reason: io::Error) -> io::Result<()> {
     errors.write_all(why)?;
@@ -81,6 +87,7 @@ pub fn read_table<R: io::Read, E: io::Write>(
     ensures counts { IsPrefixLen (count_of result) table.new }
     ensures bytes { Consumes (R.remaining input.old) (R.remaining input.new) (take (count_of result) table.new) }
     ensures all { IfOk result (λ n. (n ≡ 4449) ⊎ IsAtEnd (R.remaining input.new)) }
+    ensures retried { IfErr result (λ unread. error_kind unread.reason ≢ ErrorKind.Interrupted) }
     ensures quiet { OnOk result (errors.new ≡ errors.old) }
 {
     let read = read_all(input, table);
