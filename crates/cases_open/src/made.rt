@@ -10,10 +10,10 @@ const ROOM: usize = 4608;
 #[derive(Clone, Copy)]
 pub(crate) enum Made<'a> {
     Bytes(&'a [u8]),
-    // That many of table a. Past the table are zeros.
-    Begun(usize),
+    // That many bytes of table a. Past the table are zeros.
+    First(usize),
     // Table a with changes.
-    Changed(&'a [Change]),
+    With(&'a [Change]),
     // The table of a drawing and of m sets.
     Drawn(&'a str, u16),
     // A good table of n states, e edges and m sets, or it would be if these were allowed.
@@ -149,7 +149,7 @@ fn drawn(drawing: &str, m: u16) -> File {
     file
 }
 
-// How many targets state s has of e, spread over n states.
+// How many targets state s has of e that are spread over n states.
 fn share(n: u16, e: u16, s: u16) -> usize
     requires { s < n }
 {
@@ -158,7 +158,7 @@ fn share(n: u16, e: u16, s: u16) -> usize
 
 // A good table of any counts. Its edges are spread over the states as evenly as can be, the first states taking one more; a row's targets are
 // 0, 1, 2 and so on; state 0 is the start, and each state s after it is in the sets below both s and m.
-fn spread(n: u16, e: u16, m: u16) -> File {
+fn counted(n: u16, e: u16, m: u16) -> File {
     let mut file = File::with_header(usize::from(n), usize::from(e), usize::from(m));
     let mut next = 0usize;
     file.put(next);
@@ -187,12 +187,11 @@ impl Made<'_> {
     pub(crate) fn file(self) -> File {
         match self {
             Made::Bytes(bytes) => File::of(bytes),
-            Made::Begun(len) => {
-                let mut file = File::of(&A);
-                file.len = len;
-                file
-            }
-            Made::Changed(changes) => {
+            Made::First(len) => File {
+                len,
+                ..File::of(&A)
+            },
+            Made::With(changes) => {
                 let mut file = File::of(&A);
                 for change in changes {
                     file.change(*change);
@@ -200,7 +199,7 @@ impl Made<'_> {
                 file
             }
             Made::Drawn(drawing, m) => drawn(drawing, m),
-            Made::Counted(n, e, m) => spread(n, e, m),
+            Made::Counted(n, e, m) => counted(n, e, m),
         }
     }
 }

@@ -46,7 +46,7 @@ fn open_each_bit(rt: &impl Print) -> io::Result<()> {
         for s in [0, 3] {
             for bit in 0..8u32 {
                 let name = format_args!("sets {m}, state {s}, bit {bit}");
-                open(rt, name, Made::Changed(&[Sets(m), Mark(s, 1 << bit)]))?;
+                open(rt, name, Made::With(&[Sets(m), Mark(s, 1 << bit)]))?;
             }
         }
     }

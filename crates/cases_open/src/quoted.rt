@@ -1,7 +1,7 @@
 // The tables that are quoted.
 use crate::Case;
 use crate::made::Change::Mark;
-use crate::made::Made::{Begun, Changed, Counted, Drawn};
+use crate::made::Made::{Counted, Drawn, First, With};
 
 // The twelve tables of docs/RULES.md, "Tables by hand".
 pub(crate) const BY_HAND: &[Case] = &[
@@ -36,7 +36,7 @@ pub(crate) const BOARDS: &[Case] = &[
 
 // The sheet beside a refusal is all zeros.
 pub(crate) const REFUSED: &[Case] = &[
-    ("quote of 0 bytes", Begun(0)),
+    ("quote of 0 bytes", First(0)),
     ("quote of 65 65 1", Counted(65, 65, 1)),
-    ("quote of a, mark 3 is 64", Changed(&[Mark(3, 64)])),
+    ("quote of a, mark 3 is 64", With(&[Mark(3, 64)])),
 ];
