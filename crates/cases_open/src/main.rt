@@ -2,25 +2,81 @@
 // docs/RULES.md, "The table file", "Quote sheet", "Refusal list" and "Tables by hand". The file stdout has what they must be.
 #![tactic(auto)]
 
-mod base;
-mod boards;
-mod builder;
-mod drawn;
-mod heads;
-mod marks;
-mod print;
-mod rows;
-mod spread;
-mod twelve;
-mod two;
+mod made;
+mod opened;
+mod quoted;
 
-use std::io;
+use cases::{Numbers, Refused};
+use made::Change::{Mark, Sets};
+use made::Made;
+use std::{fmt, io};
+use table::Opened;
+
+// A name, and what its bytes are.
+type Case<'a> = (&'a str, Made<'a>);
+
+// What a table opens as.
+#[derive(Clone, Copy)]
+struct Answer(Opened);
+
+impl fmt::Display for Answer {
+    fn fmt<W: fmt::Write>(&self, f: &mut fmt::Formatter<W>) -> fmt::Result {
+        match self.0 {
+            Opened::Accepted(t) => write!(f, "accepted {} {} {}", t.states, t.edges, t.sets),
+            Opened::Refused(why) => write!(f, "{}", Refused(why)),
+        }
+    }
+}
+
+fn open(rt: &impl Print, name: impl fmt::Display + Drop, made: Made) -> io::Result<()> {
+    let file = made.file();
+    println!(rt; "{name}: {}", Answer(opening::open(file.bytes())))
+}
+
+fn open_each(rt: &impl Print, cases: &[Case]) -> io::Result<()> {
+    for &(name, made) in cases {
+        open(rt, name, made)?;
+    }
+    Ok(())
+}
+
+// Line 8, the mark bits that must be clear: each bit at the first and at the last state of table a, with no sets, with two and with four.
+fn open_each_bit(rt: &impl Print) -> io::Result<()> {
+    for m in [0, 2, 4] {
+        for s in [0, 3] {
+            for bit in 0..8u32 {
+                let name = format_args!("sets {m}, state {s}, bit {bit}");
+                open(rt, name, Made::With(&[Sets(m), Mark(s, 1 << bit)]))?;
+            }
+        }
+    }
+    Ok(())
+}
+
+fn quote_each(rt: &impl Print, cases: &[Case]) -> io::Result<()> {
+    for &(name, made) in cases {
+        let file = made.file();
+        let q = quote::quote(file.bytes());
+        let s = q.sheet;
+        print!(rt;
+            "{name}: {}, sheet {} {} {}, ",
+            Answer(q.answer),
+            s.slots,
+            s.edges,
+            s.bytes
+        )?;
+        println!(rt; "board {}, members{}", s.board, Numbers(&s.members))?;
+    }
+    Ok(())
+}
 
 fn main(rt: HostRuntime) -> io::Result<()> {
-    heads::run(&rt)?;
-    rows::run(&rt)?;
-    marks::run(&rt)?;
-    two::run(&rt)?;
-    twelve::run(&rt)?;
-    boards::run(&rt)
+    open_each(&rt, opened::HEADS)?;
+    open_each(&rt, opened::ROWS)?;
+    open_each_bit(&rt)?;
+    open_each(&rt, opened::MARKS)?;
+    open_each(&rt, opened::TWO_FAULTS)?;
+    quote_each(&rt, quoted::BY_HAND)?;
+    quote_each(&rt, quoted::BOARDS)?;
+    quote_each(&rt, quoted::REFUSED)
 }
