@@ -17,7 +17,7 @@ use Rattle.table.specs.Recording.{next_of, state_of, from_of, to_of}
 use Rattle.table.proofs.Recording.{block_states, state_in, slots_few, next_in, next_in_range, step_slot}
 use Rattle.table.specs.declared.Table.{Table}
 use Rattle.writing.specs.Placed.{placed}
-use Rattle.writing.proofs.Placed.{little_next, little_length}
+use Rattle.writing.proofs.Placed.{little_next}
 use Rattle.translation.specs.File.{along_of, row_of}
 use Rattle.translation.specs.Asks.{Asks}
 use Rattle.translation.proofs.Asks.{slot_in, record_is, unsaved_is, from_is, to_is, row_in}
@@ -97,11 +97,11 @@ module _ {b w₀ : List ℕ} {t : Table} {r : Record} {at : ℕ} {w : List ℕ} 
   edge : (block_of b).edge (state_of b q) s' ≡ true
   edge = ap ((block_of b).edge (state_of b q)) k.target_is ∙ row_edge b k.asks.formed (state_of b q) (state_in b q (slot_in k.asks k.r_in)) i k.from k.to
 
-  pub x_small : x < 4294967295
-  x_small = omega (arith, k.x_is, next_in live_flag b k.asks.formed q s' true edge, slots_few b k.asks.formed)
-
-  pub y_small : y < 4294967295
-  y_small = omega (arith, k.y_is, next_in live_flag b k.asks.formed q s' false edge, slots_few b k.asks.formed)
+  pub small : (x < 4294967295) × (y < 4294967295)
+  small = (
+    omega (arith, k.x_is, next_in live_flag b k.asks.formed q s' true edge, slots_few b k.asks.formed),
+    omega (arith, k.y_is, next_in live_flag b k.asks.formed q s' false edge, slots_few b k.asks.formed),
+  )
 
   -- there is room for what the slot leads to along target i
   next_is : row_to live_flag b q (i + 1) ≡ row_to live_flag b q i ++ along_of live_flag b q s'
@@ -122,32 +122,32 @@ module _ {b w₀ : List ℕ} {t : Table} {r : Record} {at : ℕ} {w : List ℕ} 
       little_next at end (row_to live_flag b q i) xs w₀ k.written d k.end_is (omega (arith, next_room, next_length))
       ∙ ap (λ (l : List ℕ). placed at (little_endian l) w₀) (ap (λ (l : List ℕ). row_to live_flag b q i ++ l) e ∙ sym next_is)
 
-  module _ {w' : List ℕ} (d : w' ≡ placed end (little_endian (x ∷ [])) w) where
-    -- where a state is saved, it is x alone
-    module _ (h : r.t ≢ t.states) where
-      one_is : x ∷ [] ≡ along_of live_flag b q s'
-      one_is =
-          let u = sym (ne_eqb r.t t.states h) ∙ unsaved_is k.asks k.r_in in
-          ap₂ (λ (x : ℕ) (u : Bool). x ∷ cond u (next_of live_flag b q s' false ∷ []) []) k.x_is u
+  -- where a state is saved, that is x alone
+  module _ (h : r.t ≢ t.states) where
+    one_is : x ∷ [] ≡ along_of live_flag b q s'
+    one_is =
+        let u = sym (ne_eqb r.t t.states h) ∙ unsaved_is k.asks k.r_in in
+        ap₂ (λ (x : ℕ) (u : Bool). x ∷ cond u (next_of live_flag b q s' false ∷ []) []) k.x_is u
 
-      pub one_end : end + 4 ≡ at + 4 * length (row_to live_flag b q (i + 1))
-      one_end = omega (arith, k.end_is, next_length, ap length one_is)
+    pub one_end : end + 4 ≡ at + 4 * length (row_to live_flag b q (i + 1))
+    one_end = omega (arith, k.end_is, next_length, ap length one_is)
 
-      pub one_written : w' ≡ placed at (little_endian (row_to live_flag b q (i + 1))) w₀
-      one_written = on one_is d
+    pub one_written : {w' : List ℕ} → w' ≡ placed end (little_endian (x ∷ [])) w → w' ≡ placed at (little_endian (row_to live_flag b q (i + 1))) w₀
+    one_written d = on one_is d
 
-    -- and where nothing is, x and y
-    module _ (h : r.t ≡ t.states) where
-      both_are : x ∷ y ∷ [] ≡ along_of live_flag b q s'
-      both_are =
-          let u = sym (eq-eqb r.t t.states h) ∙ unsaved_is k.asks k.r_in in
-          ap (λ (y : ℕ). x ∷ y ∷ []) k.y_is ∙ ap₂ (λ (x : ℕ) (u : Bool). x ∷ cond u (next_of live_flag b q s' false ∷ []) []) k.x_is u
+  -- and where nothing is, x and y
+  module _ (h : r.t ≡ t.states) where
+    both_are : x ∷ y ∷ [] ≡ along_of live_flag b q s'
+    both_are =
+        let u = sym (eq-eqb r.t t.states h) ∙ unsaved_is k.asks k.r_in in
+        ap (λ (y : ℕ). x ∷ y ∷ []) k.y_is ∙ ap₂ (λ (x : ℕ) (u : Bool). x ∷ cond u (next_of live_flag b q s' false ∷ []) []) k.x_is u
 
-      pub both_end : end + 4 + 4 ≡ at + 4 * length (row_to live_flag b q (i + 1))
-      both_end = omega (arith, k.end_is, next_length, ap length both_are)
+    pub both_end : end + 4 + 4 ≡ at + 4 * length (row_to live_flag b q (i + 1))
+    both_end = omega (arith, k.end_is, next_length, ap length both_are)
 
-      pub y_room : end + 4 + 4 ≤ length w'
-      y_room = rw d (omega (arith, both_end, next_room, k.same_length, little_length end (x ∷ []) w x_room))
+    pub y_room : end + 4 + 4 ≤ length w
+    y_room = omega (arith, both_end, next_room, k.same_length)
 
-      pub both_written : {w'' : List ℕ} → w'' ≡ placed (end + 4) (little_endian (y ∷ [])) w' → w'' ≡ placed at (little_endian (row_to live_flag b q (i + 1))) w₀
-      both_written d' = on both_are (little_next end (end + 4) (x ∷ []) (y ∷ []) w d d' (omega arith) x_room)
+    pub both_written : {w' w'' : List ℕ} → w' ≡ placed end (little_endian (x ∷ [])) w → w'' ≡ placed (end + 4) (little_endian (y ∷ [])) w'
+        → w'' ≡ placed at (little_endian (row_to live_flag b q (i + 1))) w₀
+    both_written d d' = on both_are (little_next end (end + 4) (x ∷ []) (y ∷ []) w d d' (omega arith) x_room)

@@ -15,16 +15,13 @@ use Rattle.table.specs.BlockOf.{block_of}
 use Rattle.table.specs.Layout.{states_of, edges_of, sets_of, row_start}
 use Rattle.table.proofs.Row.{row_some, row_to_lem}
 use Rattle.table.specs.Recording.{slots_of, state_of, from_of, to_of}
-use Rattle.table.proofs.Recording.{slots_few, state_in, block_states, block_sets, start_slot, made_range, made_slot}
+use Rattle.table.proofs.Recording.{state_in, block_states, block_sets, start_slot, made_range, made_slot}
 use Rattle.table.specs.declared.Table.{Table}
 use Rattle.translation.proofs.Counts.{length_row, starts_step, starts_to}
 use Rattle.translation.specs.File.{row_of, start_of_row, is_start, slot_mark}
 use Rattle.translation.specs.Asks.{Asks}
 
--- the slots are few, and no row starts far
-pub slots_small : {b : List ℕ} {t : Table} {S : ℕ} → Asks b t → S ≡ slots_of b → S < 4294967295
-slots_small {b} a e = omega (arith, slots_few b a.formed)
-
+-- no row starts far
 pub starts_small : (R : Flag) {b : List ℕ} {t : Table} → Asks b t → (p : ℕ) → p ≤ slots_of b → start_of_row R b p ≤ 1024 * 66 * 2 ^ 9
 starts_small R {b} a p h =
     let f = a.formed in
@@ -34,13 +31,6 @@ starts_small R {b} a p h =
 pub byte_is_bit : (u : Bool) → bool_byte u ≡ bit_of u
 byte_is_bit true = refl
 byte_is_bit false = refl
-
-pub byte_small : (u : Bool) → bool_byte u ≤ 1
-byte_small u = rw (byte_is_bit u) (go u)
-  where
-    go : (u : Bool) → bit_of u ≤ 1
-    go true = omega arith
-    go false = omega arith
 
 -- ---- r is the record of slot p
 module _ {b : List ℕ} {t : Table} {p : ℕ} {r : Record} (a : Asks b t) (l : p < slots_of b) (e : r ≡ record_of_slot t.states t.sets p) where
@@ -55,10 +45,11 @@ module _ {b : List ℕ} {t : Table} {p : ℕ} {r : Record} (a : Asks b t) (l : p
   pub next_is : {r' : Record} → r' ≡ record_of_slot t.states t.sets (slot_of t.states t.sets r + 1) → r' ≡ record_of_slot t.states t.sets (p + 1)
   next_is d = d ∙ ap (λ (x : ℕ). record_of_slot t.states t.sets (x + 1)) slot_is
 
-  -- whose row starts where that of slot p ends
+  -- the row of r is that of slot p
   pub row_is : (R : Flag) → row_of R b (slot_of t.states t.sets r) ≡ row_of R b p
   row_is R = ap (row_of R b) slot_is
 
+  -- and where it ends the next one starts
   pub next_start : (R : Flag) → start_of_row R b p + length (row_of R b (slot_of t.states t.sets r)) ≡ start_of_row R b (p + 1)
   next_start R = omega (arith, ap length (row_is R), starts_step R b p, ap (start_of_row R b) (add-one p))
 

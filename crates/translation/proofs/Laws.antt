@@ -25,7 +25,7 @@ use Rattle.writing.specs.File.{listed, header_of, file_with}
 use Rattle.writing.proofs.Listed.{length-listed}
 use Rattle.writing.proofs.Little.{length_little}
 use Rattle.writing.specs.Placed.{placed}
-use Rattle.writing.proofs.Placed.{length-placed, part_length, part_on}
+use Rattle.writing.proofs.Placed.{part_on}
 use Rattle.translation.specs.Asks.{Asks}
 use Rattle.translation.specs.File.{start_of_row, targets_to, slot_mark, file_of}
 use Rattle.translation.proofs.Counts.{all_targets, length_file}
@@ -99,7 +99,7 @@ module _ {b : List ℕ} {t : Table} {S E : ℕ} (k : Counted b t S E) where
         omega (arith, edges_are, edges_small (states_of b) (edges_of b) (sets_of b) f.states_to f.edges_to (omega (arith, f.sets_to))),
       )
 
-  targets_are : start_of_row live_flag b S ≡ E
+  pub targets_are : start_of_row live_flag b S ≡ E
   targets_are = ap (start_of_row live_flag b) slots_are ∙ all_targets live_flag b asks.formed ∙ sym edges_are
 
   size_is : 32 + 4 * S + 4 * E + S ≡ size_of b
@@ -110,7 +110,7 @@ module _ {b : List ℕ} {t : Table} {S E : ℕ} (k : Counted b t S E) where
     pub too_short : length out < 32 + 4 * S + 4 * E + S → TranslateSays b out (Err ShortOutput) out
     too_short l = short_output b out t k.opened (omega (arith, size_is))
 
-    -- or there is room for the header, the row starts, the targets and the marks
+    -- or there is room for the header, the row starts, the targets and the marks, and they were written into their parts
     module _ (room : 32 + 4 * S + 4 * E + S ≤ length out) where
       abbrev header : List ℕ
       header = little_endian (header_of 2 S E 0)
@@ -124,58 +124,42 @@ module _ {b : List ℕ} {t : Table} {S E : ℕ} (k : Counted b t S E) where
       abbrev marks : List ℕ
       marks = listed (slot_mark live_flag b) (slots_of b)
 
-      -- how long they are
       rows_length : length rows ≡ 4 * suc S
       rows_length = length_little (listed (start_of_row live_flag b) (suc S)) ∙ omega (arith, length-listed (start_of_row live_flag b) (suc S))
 
       targets_length : length targets ≡ 4 * E
       targets_length = length_little (targets_to live_flag b S) ∙ omega (arith, targets_are)
 
-      lengths : (length (header ++ rows) ≡ 32 + 4 * S) × (length (header ++ rows ++ targets) ≡ 32 + 4 * S + 4 * E)
-      lengths = (simp length-append (omega (arith, rows_length)), simp length-append (omega (arith, rows_length, targets_length)))
-
-      -- the header and the row starts are written
-      module _ {h r : List ℕ} (eh : h ≡ header) (er : r ≡ rows) where
+      module _ {h r g m : List ℕ} (eh : h ≡ header) (er : r ≡ rows) (eg : g ≡ targets) (em : m ≡ marks) where
         abbrev with_rows : List ℕ
         with_rows = part_back 28 (32 + 4 * S) (h ++ drop 28 out) r
 
         rows_there : with_rows ≡ placed 0 (header ++ rows) out
         unfolding placed
-        rows_there =
-            rw er (part_on 28 (32 + 4 * S) header rows out (ap (λ (h : List ℕ). h ++ drop 28 out) eh) refl (omega (arith, rows_length)) (omega arith) (omega arith))
+        rows_there = rw er (part_on 28 (32 + 4 * S) header rows out (ap (λ (h : List ℕ). h ++ drop 28 out) eh) refl (omega (arith, rows_length)) (omega arith) (omega arith))
 
-        pub targets_room : length (take (32 + 4 * S + 4 * E - (32 + 4 * S)) (drop (32 + 4 * S) with_rows)) ≡ 4 * start_of_row live_flag b S
-        targets_room =
-            part_length (32 + 4 * S) (32 + 4 * S + 4 * E) with_rows (omega arith)
-            (rw rows_there (omega (arith, length-placed 0 (header ++ rows) out (omega (arith, lengths)))))
-            ∙ omega (arith, targets_are)
+        abbrev with_targets : List ℕ
+        with_targets = part_back (32 + 4 * S) (32 + 4 * S + 4 * E) with_rows g
 
-        -- and the targets
-        module _ {g : List ℕ} (eg : g ≡ targets) where
-          abbrev with_targets : List ℕ
-          with_targets = part_back (32 + 4 * S) (32 + 4 * S + 4 * E) with_rows g
+        targets_there : with_targets ≡ placed 0 (header ++ rows ++ targets) out
+        targets_there =
+            rw eg
+            (part_on (32 + 4 * S) (32 + 4 * S + 4 * E) (header ++ rows) targets out rows_there (simp length-append (omega (arith, rows_length)))
+            (omega (arith, targets_length)) (omega arith) (omega arith))
 
-          targets_there : with_targets ≡ placed 0 (header ++ rows ++ targets) out
-          targets_there =
-              rw eg (part_on (32 + 4 * S) (32 + 4 * S + 4 * E) (header ++ rows) targets out rows_there lengths.0 (omega (arith, targets_length)) (omega arith) (omega arith))
+        abbrev with_marks : List ℕ
+        with_marks = part_back (32 + 4 * S + 4 * E) (32 + 4 * S + 4 * E + S) with_targets m
 
-          pub marks_room : length (take (32 + 4 * S + 4 * E + S - (32 + 4 * S + 4 * E)) (drop (32 + 4 * S + 4 * E) with_targets)) ≡ slots_of b
-          marks_room =
-              part_length (32 + 4 * S + 4 * E) (32 + 4 * S + 4 * E + S) with_targets (omega arith)
-              (rw targets_there (omega (arith, length-placed 0 (header ++ rows ++ targets) out (omega (arith, lengths)))))
-              ∙ omega (arith, slots_are)
+        -- which is the file
+        file_there : with_marks ≡ placed 0 (file_of live_flag b) out
+        unfolding file_of file_with
+        file_there =
+            let there =
+            part_on (32 + 4 * S + 4 * E) (32 + 4 * S + 4 * E + S) (header ++ rows ++ targets) marks out targets_there
+            (simp length-append (omega (arith, rows_length, targets_length))) (omega (arith, length-listed (slot_mark live_flag b) (slots_of b), slots_are)) (omega arith) room in
+            rw em there
+            ∙ ap (λ (E : ℕ). placed 0 (little_endian (header_of 2 S E 0) ++ rows ++ targets ++ marks) out) (sym targets_are)
+            ∙ rw slots_are
 
-          -- and the marks: that is the file
-          file_there : {m : List ℕ} → m ≡ marks → part_back (32 + 4 * S + 4 * E) (32 + 4 * S + 4 * E + S) with_targets m ≡ placed 0 (file_of live_flag b) out
-          unfolding file_of file_with
-          file_there em =
-              let there =
-              part_on (32 + 4 * S + 4 * E) (32 + 4 * S + 4 * E + S) (header ++ rows ++ targets) marks out targets_there lengths.1
-              (omega (arith, length-listed (slot_mark live_flag b) (slots_of b), slots_are)) (omega arith) room in
-              rw em there
-              ∙ ap (λ (E : ℕ). placed 0 (little_endian (header_of 2 S E 0) ++ rows ++ targets ++ marks) out) (sym targets_are)
-              ∙ rw slots_are
-
-          pub translated : {m : List ℕ} → m ≡ marks
-              → TranslateSays b out (Ok (32 + 4 * S + 4 * E + S)) (part_back (32 + 4 * S + 4 * E) (32 + 4 * S + 4 * E + S) with_targets m)
-          translated em = written b out t k.opened (omega (arith, size_is)) _ size_is _ (file_there em) asks.formed
+        pub translated : TranslateSays b out (Ok (32 + 4 * S + 4 * E + S)) with_marks
+        translated = written b out t k.opened (omega (arith, size_is)) _ size_is _ file_there asks.formed

@@ -1,9 +1,10 @@
 -- The table is opened and taken, the code goes down line 11, and then it lends each part of the output to its writer.
 use Rattle.std.proofs.Common.{Ok, ◌≡◌, sym, ◌∙◌, arith}
 use Rattle.std.proofs.lemmas.Result.{err_from_is_err_and}
+use Rattle.std.proofs.lemmas.Grind.{common_steps}
 use Rattle.table.specs.Open.{open_of}
 use Rattle.table.proofs.WellFormed.{laid}
-use Rattle.translation.proofs.Laws.{Counted, table_refused, asks, slots_are, sizes_small, too_short, targets_room, marks_room, translated}
+use Rattle.translation.proofs.Laws.{Counted, table_refused, asks, slots_are, sizes_small, too_short, targets_are, translated}
 use Rattle.translation.proofs.translate.Goals as goal
 use Rattle.translation.proofs.translate.Goals.{In_ok-t, After-edge_count-edges}
 
@@ -38,26 +39,27 @@ pub overflow_add-size : goal.overflow_add-size
 overflow_add-size c = omega (arith, sizes_small (counted c))
 
 pub returns-then-out-size : goal.returns-then-out-size
-returns-then-out-size c = too_short (counted (goal.at.returns-then-out-size c).After-edge_count-edges) c.args.out.now c.if-out-size.true
+returns-then-out-size c = too_short (counted (goal.at.returns-then-out-size c).After-edge_count-edges) c.args.out.now (omega arith)
 
 pub write_header-requires-clause-edges_bound : goal.write_header-requires-clause-edges_bound
 write_header-requires-clause-edges_bound c = omega (arith, sizes_small (counted (goal.at.write_header-requires-clause-edges_bound c).After-edge_count-edges))
 
-pub write_rows-requires-clause-asks : goal.write_rows-requires-clause-asks
-write_rows-requires-clause-asks c = asks (counted (goal.at.write_rows-requires-clause-asks c).After-edge_count-edges)
-
-pub write_rows-requires-clause-slots_are : goal.write_rows-requires-clause-slots_are
-write_rows-requires-clause-slots_are c = slots_are (counted (goal.at.write_rows-requires-clause-slots_are c).After-edge_count-edges)
+pub write_rows-requires : goal.write_rows-requires
+write_rows-requires c =
+    let k = counted (goal.at.write_rows-requires c).After-edge_count-edges in
+    record { asks = asks k; slots_are = slots_are k; part_len = grind (arith, common_steps) }
 
 pub write_targets-requires : goal.write_targets-requires
 write_targets-requires c =
     let k = counted (goal.at.write_targets-requires c).After-edge_count-edges in
-    record { asks = asks k; slots_are = slots_are k; part_len = targets_room k c.args.out.now c.if-out-size.false c.write_header.ensures c.write_rows.ensures }
+    let e = targets_are k in
+    record { asks = asks k; slots_are = slots_are k; part_len = grind (arith, common_steps) }
 
 pub write_marks-requires : goal.write_marks-requires
 write_marks-requires c =
     let k = counted (goal.at.write_marks-requires c).After-edge_count-edges in
-    record { asks = asks k; part_len = marks_room k c.args.out.now c.if-out-size.false c.write_header.ensures c.write_rows.ensures c.write_targets.ensures }
+    let e = slots_are k in
+    record { asks = asks k; part_len = grind (arith, common_steps) }
 
 pub returns : goal.returns
 returns c =

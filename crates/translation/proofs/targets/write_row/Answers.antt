@@ -3,7 +3,7 @@ use Rattle.std.proofs.Common.{true, false, ◌+◌, ◌*◌, ◌∙◌, arith}
 use Rattle.table.proofs.Inside.{target_inside}
 use Rattle.translation.proofs.Asks.{from_is, to_is, row_in}
 use Rattle.writing.proofs.Placed.{placed_none}
-use Rattle.translation.proofs.Along.{zero_range, along_slot, row_begins, row_ends, Along, x_small, y_small, x_room, y_room, one_end, one_written, both_end, both_written}
+use Rattle.translation.proofs.Along.{zero_range, along_slot, row_begins, row_ends, Along, small, x_room, y_room, one_end, one_written, both_end, both_written}
 use Rattle.translation.proofs.targets.write_row.Goals as goal
 use Rattle.translation.proofs.targets.write_row.Goals.{After-target, then-r-n, else-r-n}
 
@@ -41,37 +41,37 @@ target-requires c =
     target_inside _ _ c.requires.asks.laid _ (omega (arith, to_is c.requires.asks c.requires.r_in c.row_start-to.ensures))
 
 pub overflow_mul-first : goal.overflow_mul-first
-overflow_mul-first c = omega (arith, x_small (here (goal.at.overflow_mul-first c).After-target))
+overflow_mul-first c = omega (arith, small (here (goal.at.overflow_mul-first c).After-target))
 
 pub overflow_add-first : goal.overflow_add-first
-overflow_add-first c = omega (arith, x_small (here (goal.at.overflow_add-first c).After-target))
+overflow_add-first c = omega (arith, small (here (goal.at.overflow_add-first c).After-target))
 
 pub put-requires : goal.put-requires
-put-requires c = x_room (here (goal.at.put-requires c).After-target)
+put-requires c = omega (arith, x_room (here (goal.at.put-requires c).After-target))
 
 pub overflow_add-end : goal.overflow_add-end
 overflow_add-end c = omega (arith, x_room (here (goal.at.overflow_add-end c).After-target))
 
 pub overflow_add-first-then-r-n : goal.overflow_add-first-then-r-n
-overflow_add-first-then-r-n c = omega (arith, y_small (here (goal.at.overflow_add-first-then-r-n c).After-target))
+overflow_add-first-then-r-n c = omega (arith, small (here (goal.at.overflow_add-first-then-r-n c).After-target))
 
 pub put-requires-then-r-n : goal.put-requires-then-r-n
-put-requires-then-r-n c = y_room (here (goal.at.put-requires-then-r-n c).After-target) c.put.ensures c.if-r-n.true
+put-requires-then-r-n c = omega (arith, y_room (here (goal.at.put-requires-then-r-n c).After-target) c.if-r-n.true)
 
 pub overflow_add-end-then-r-n : goal.overflow_add-end-then-r-n
-overflow_add-end-then-r-n c = omega (arith, y_room (here (goal.at.overflow_add-end-then-r-n c).After-target) c.put.ensures c.if-r-n.true)
+overflow_add-end-then-r-n c = omega (arith, y_room (here (goal.at.overflow_add-end-then-r-n c).After-target) c.if-r-n.true)
 
 pub loop-i-preserved : goal.loop-i-preserved
 loop-i-preserved c =
     let k = here (goal.at.loop-i-preserved c).After-target in
     elim c.if-r-n.branch [
       | then-r-n w ↦ record {
-        end_is = w.end-is ∙ both_end k c.put.ensures w.if-r-n.true;
-        written = w.part-is ∙ both_written k c.put.ensures w.if-r-n.true w.put-then-r-n.ensures;
+        end_is = w.end-is ∙ both_end k w.if-r-n.true;
+        written = w.part-is ∙ both_written k w.if-r-n.true c.put.ensures w.put-then-r-n.ensures;
       }
       | else-r-n w ↦ record {
-        end_is = w.end-is ∙ one_end k c.put.ensures w.if-r-n.false;
-        written = w.part-is ∙ one_written k c.put.ensures w.if-r-n.false;
+        end_is = w.end-is ∙ one_end k w.if-r-n.false;
+        written = w.part-is ∙ one_written k w.if-r-n.false c.put.ensures;
       }
     ]
 
