@@ -7,7 +7,8 @@ use Rattle.order.specs.Turn.{Turning}
 use Rattle.order.proofs.Turn.{turn_passes, turn_queues}
 use Rattle.search.specs.Workspace.{origin_at, slot_at, queue_of, Kept, meeting}
 use Rattle.search.proofs.Workspace.{room_left, meeting_agrees, meeting_node, meeting_origin, meeting_keeps}
-use Rattle.search.specs.Meet.{MeetAsks, MeetSays, SameRest}
+use Rattle.search.specs.Meet.{MeetAsks, MeetSays, SameRest, SameQueue}
+use Rattle.search.specs.declared.queue.Queue.{Queue}
 
 -- the same under other names for S and x
 pub asks_as : {S S' : ℕ} {w : List ℕ} {tail x x' o : ℕ} → S ≡ S' → x ≡ x' → MeetAsks S' w tail x' o → MeetAsks S w tail x o
@@ -25,6 +26,9 @@ rest_same S w = record { size = refl; rest = refl }
 
 pub rest_trans : {S : ℕ} {u v w : List ℕ} → SameRest S u v → SameRest S v w → SameRest S u w
 rest_trans p q = record { size = q.size ∙ p.size; rest = q.rest ∙ p.rest }
+
+pub queue_trans : {q r s : Queue} → SameQueue q r → SameQueue r s → SameQueue q s
+queue_trans a b = record { slots = b.slots ∙ a.slots; words = b.words ∙ a.words }
 
 -- either way the queue is in order and no shorter, and what stood in it stays
 pub record Met (S : ℕ) (w : List ℕ) (tail r : ℕ) (w' : List ℕ) : Type 0 where
