@@ -15,14 +15,14 @@ use Rattle.table.specs.declared.Table.{Table}
 use Rattle.table.specs.Recording.{slots_of, graph_of}
 use Rattle.table.proofs.Recording.{block_states, block_sets}
 use Rattle.writing.specs.Cleared.{cleared}
-use Rattle.writing.proofs.Cleared.{length-cleared, cleared_at, cleared_past, cleared_again}
+use Rattle.writing.proofs.Cleared.{cleared_past, cleared_again}
 use Rattle.search.specs.Climb.{Climbs, path_by, label_of}
 use Rattle.search.proofs.ClimbLaws.{kept_climbs, slot_path, path_to}
 use Rattle.search.specs.Report.{halves, odds}
 use Rattle.search.proofs.Report.{Reports, lasso_reported}
-use Rattle.search.specs.Scan.{ScanAsks, Stopped, ScanSays}
+use Rattle.search.specs.Scan.{Stopped, ScanSays}
 use Rattle.search.specs.Meet.{SameRest}
-use Rattle.search.specs.Starts.{StartsAsk, StartsSay}
+use Rattle.search.specs.Starts.{StartsSay}
 use Rattle.search.specs.Find.{FindAsks, FindSays}
 
 -- the origins of a scan that stopped lead to a start

@@ -1,5 +1,5 @@
 -- What the two loops keep.
-use Prim.Native.Nat.{◌-◌}
+use Rattle.std.proofs.Common.{◌-◌}
 use Rattle.recorder.specs.Flag.{live_flag}
 use Rattle.search.specs.Meet.{SameQueue}
 use Rattle.search.proofs.Scanning.{Waiting, InRow}
