@@ -15,14 +15,14 @@ use Rattle.table.specs.declared.Table.{Table}
 use Rattle.table.specs.Recording.{slots_of, graph_of}
 use Rattle.table.proofs.Recording.{block_states, block_sets}
 use Rattle.writing.specs.Cleared.{cleared}
-use Rattle.writing.proofs.Cleared.{length-cleared, cleared_at, cleared_past, cleared_again}
+use Rattle.writing.proofs.Cleared.{cleared_past, cleared_again}
 use Rattle.search.specs.Climb.{Climbs, path_by, label_of}
 use Rattle.search.proofs.ClimbLaws.{kept_climbs, slot_path, path_to}
 use Rattle.search.specs.Report.{halves, odds}
 use Rattle.search.proofs.Report.{Reports, lasso_reported}
-use Rattle.search.specs.Scan.{ScanAsks, Stopped, ScanSays}
+use Rattle.search.specs.Scan.{Stopped, ScanSays}
 use Rattle.search.specs.Meet.{SameRest}
-use Rattle.search.specs.Starts.{StartsAsk, StartsSay}
+use Rattle.search.specs.Starts.{StartsSay}
 use Rattle.search.specs.Find.{FindAsks, FindSays}
 
 -- the origins of a scan that stopped lead to a start
@@ -51,65 +51,52 @@ stopped_tells F b n m S w head y f en em s =
 
 -- ---- along the code of `find`, by the rules' flag: the origins are cleared, which gives v
 module _ {b : List ℕ} {t : Table} {S : ℕ} {work report : List ℕ} (a : FindAsks b t S work report) {v : List ℕ} (e : v ≡ cleared S work) where
-  -- then the starts can be queued
-  pub starts_asked : StartsAsk b t S v
-  starts_asked = rw e (record {
-    formed = a.formed;
-    laid = a.laid;
-    slots_are = a.slots_are;
-    room = let l = a.work_room in omega (arith, length-cleared S work (omega arith));
-    fresh = λ x h. cleared_at S work x h;
-  })
-
-  module _ {queued : ℕ} {u : List ℕ} (s : StartsSay live_flag b S v queued u) where
-    -- and then scanned
-    pub scan_asked : ScanAsks live_flag b t S u queued
-    scan_asked = record { formed = a.formed; laid = a.laid; slots_are = a.slots_are; kept = s.kept; between = s.between }
-
+  module _ {queued : ℕ} {u : List ℕ} (s : StartsSay live_flag b S v queued u) {S' : ℕ} (same : S' ≡ S) where
     -- What is cleared after the scan is what came, cleared: the words past the first 2S stay all the while.
-    clears : {w z : List ℕ} → SameRest S u w → z ≡ cleared (2 * S) w → z ≡ cleared (2 * slots_of b) work
+    clears : {w z : List ℕ} → SameRest S' u w → z ≡ cleared (2 * S) w → z ≡ cleared (2 * slots_of b) work
     clears {w} k d =
-        let rest : drop (2 * S) w ≡ drop (2 * S) work = k.rest ∙ s.same.rest ∙ ap (drop (2 * S)) e ∙ cleared_past S (2 * S) work (omega arith) in
+        let rest : drop (2 * S) w ≡ drop (2 * S) work = (rw same at k.rest) ∙ s.same.rest ∙ ap (drop (2 * S)) e ∙ cleared_past S (2 * S) work (omega arith) in
         d ∙ cleared_again (2 * S) work w rest ∙ rw a.slots_are
 
     -- ---- no bad slot was met
-    pub says_holds : {w z : List ℕ} → ScanSays live_flag b S u None w → z ≡ cleared (2 * S) w → FindSays b work report None z report
-    says_holds k d = (((least_of_block (block_of b) (sound b a.formed)).none.0 k.seen, refl), clears k.same d)
+    pub says_holds : {w w' z : List ℕ} → ScanSays live_flag b S' u None w → z ≡ cleared (2 * S) w' → w' ≡ w → FindSays b work report None z report
+    says_holds k d back = (((least_of_block (block_of b) (sound b a.formed)).none.0 k.seen, refl), clears k.same (rw back at d))
 
-    -- ---- a bad slot that head leads to
-    module _ {w : List ℕ} {head : ℕ} (k : ScanSays live_flag b S u (Some head) w) where
+    -- ---- a bad slot that head leads to, in the words w of the queue, which are those that the workspace has afterwards
+    module _ {w : List ℕ} {head : ℕ} (k : ScanSays live_flag b S' u (Some head) w) {w' : List ℕ} where
+      stopped : w' ≡ w → Stopped live_flag b S w' head k.seen.0
+      stopped back = rw (back, ← same) k.seen.1
+
       -- the path to head can be climbed
-      pub path_climbs : Climbs w S head
-      path_climbs = stopped_climbs k.seen.1
+      pub path_climbs : w' ≡ w → Climbs w' S head
+      path_climbs back = stopped_climbs (stopped back)
 
-      abbrev path : Word
-      path = path_by (label_of t.states t.sets) S w head
-
-      told : Told live_flag b path
-      told = stopped_tells live_flag b t.states t.sets S w head _ a.formed a.laid.states_are a.laid.sets_are k.seen.1
+      told : w' ≡ w → Told live_flag b (path_by (label_of t.states t.sets) S w' head)
+      told back = stopped_tells live_flag b t.states t.sets S w' head _ a.formed a.laid.states_are a.laid.sets_are (stopped back)
 
       -- it has len records
-      module _ {len : ℕ} (is : (label : ℕ → ℕ) → len ≡ length (path_by label S w head)) where
-        pub len_fits : (len ≡ length path) × (len ≤ length report)
-        len_fits = (is _, omega (arith, is (label_of t.states t.sets), path_to (label_of t.states t.sets) S w head path_climbs, a.report_room))
+      module _ {len : ℕ} (is : (label : ℕ → ℕ) → len ≡ length (path_by label S w' head)) where
+        pub len_fits : w' ≡ w → (len ≡ length (path_by (label_of t.states t.sets) S w' head)) × (len ≤ length report)
+        len_fits back = (is _, omega (arith, is (label_of t.states t.sets), path_to (label_of t.states t.sets) S w' head (path_climbs back), a.report_room))
 
-        pub len_some : 0 < len
-        len_some = omega (arith, is (label_of t.states t.sets), told.reports.size, told.least.is.loop.here)
+        pub len_some : w' ≡ w → 0 < len
+        len_some back = let t' = told back in omega (arith, is (label_of t.states t.sets), t'.reports.size, t'.least.is.loop.here)
 
-        module _ {n : ℕ} (d : n ≡ odds path) where
-          pub odds_some : 0 < n
-          odds_some = omega (arith, told.reports.place)
+        module _ {n : ℕ} (d : n ≡ odds (path_by (label_of t.states t.sets) S w' head)) where
+          pub odds_some : w' ≡ w → 0 < n
+          odds_some back = omega (arith, (told back).reports.place)
 
-          pub says_lasso : {report' z : List ℕ} → report' ≡ halves path ++ drop len report → z ≡ cleared (2 * S) w
-              → FindSays b work report (Some (record { k = len - 1; l = n - 1 })) z report'
-          says_lasso r c =
-              let size = is (label_of t.states t.sets) ∙ told.reports.size in
-              let place : n - 1 ≡ told.l = omega (arith, told.reports.place) in (
+          pub says_lasso : {report' z : List ℕ} → report' ≡ halves (path_by (label_of t.states t.sets) S w' head) ++ drop len report → z ≡ cleared (2 * S) w'
+              → w' ≡ w → FindSays b work report (Some (record { k = len - 1; l = n - 1 })) z report'
+          says_lasso r c back =
+              let t' = told back in
+              let size = is (label_of t.states t.sets) ∙ t'.reports.size in
+              let place : n - 1 ≡ t'.l = omega (arith, t'.reports.place) in (
                 (
-                  told.ss,
-                  omega (arith, size, told.least.is.loop.here),
-                  rw place (least_live (block_of b) told.ss told.l told.least),
-                  r ∙ ap (λ (x : List ℕ). x ++ drop len report) told.reports.states ∙ ap (λ (k : ℕ). told.ss ++ drop k report) size,
+                  t'.ss,
+                  omega (arith, size, t'.least.is.loop.here),
+                  rw place (least_live (block_of b) t'.ss t'.l t'.least),
+                  r ∙ ap (λ (x : List ℕ). x ++ drop len report) t'.reports.states ∙ ap (λ (k : ℕ). t'.ss ++ drop k report) size,
                 ),
-                clears k.same c,
+                clears k.same (rw back at c),
               )

@@ -1,5 +1,5 @@
 -- Laws of specs/Meet.antt. Assumes nothing.
-use Rattle.std.specs.Prelude.{◌≡◌, refl, List, ℕ, suc, ◌+◌, ◌-◌, ◌*◌, ◌≤◌, ◌<◌}
+use Rattle.std.specs.Prelude.{◌≡◌, refl, List, ℕ, suc, ◌+◌, ◌-◌, ◌*◌, ◌<◌}
 use Rattle.std.proofs.Common.{ap, ◌∙◌, add-one, arith, length-set, drop-set-lt}
 use Rattle.std.proofs.Math.Decide.{ℕ_discrete}
 use Rattle.order.specs.Graph.{Graph}
@@ -7,7 +7,8 @@ use Rattle.order.specs.Turn.{Turning}
 use Rattle.order.proofs.Turn.{turn_passes, turn_queues}
 use Rattle.search.specs.Workspace.{origin_at, slot_at, queue_of, Kept, meeting}
 use Rattle.search.proofs.Workspace.{room_left, meeting_agrees, meeting_node, meeting_origin, meeting_keeps}
-use Rattle.search.specs.Meet.{MeetAsks, MeetSays, SameRest}
+use Rattle.search.specs.Meet.{MeetAsks, MeetSays, SameRest, SameQueue}
+use Rattle.search.specs.declared.queue.Queue.{Queue}
 
 -- the same under other names for S and x
 pub asks_as : {S S' : ℕ} {w : List ℕ} {tail x x' o : ℕ} → S ≡ S' → x ≡ x' → MeetAsks S' w tail x' o → MeetAsks S w tail x o
@@ -26,11 +27,13 @@ rest_same S w = record { size = refl; rest = refl }
 pub rest_trans : {S : ℕ} {u v w : List ℕ} → SameRest S u v → SameRest S v w → SameRest S u w
 rest_trans p q = record { size = q.size ∙ p.size; rest = q.rest ∙ p.rest }
 
--- either way the queue is in order and no shorter, and what stood in it stays
+pub queue_trans : {q r s : Queue} → SameQueue q r → SameQueue r s → SameQueue q s
+queue_trans a b = record { slots = b.slots ∙ a.slots; words = b.words ∙ a.words }
+
+-- either way the queue is in order, and what stood in it stays
 pub record Met (S : ℕ) (w : List ℕ) (tail r : ℕ) (w' : List ℕ) : Type 0 where
   pub kept : Kept S w' r
   pub same : SameRest S w w'
-  pub longer : tail ≤ r
   pub stays : (i : ℕ) → i < tail → slot_at S w' i ≡ slot_at S w i
 
 module _ {S : ℕ} {w : List ℕ} {tail x o r : ℕ} {w' : List ℕ} (a : MeetAsks S w tail x o) (m : MeetSays S w tail x o r w') where
@@ -49,18 +52,9 @@ module _ {S : ℕ} {w : List ℕ} {tail x o r : ℕ} {w' : List ℕ} (a : MeetAs
               size = simp length-set;
               rest = drop-set-lt (2 * S) _ (S + tail) x (omega arith) ∙ drop-set-lt (2 * S) w x o (omega (arith, a.slot_in));
             };
-            longer = omega arith;
             stays = λ i h. (meeting_agrees S tail x o w a.kept a.slot_in e a.origin_from).node i h;
           })
-      go (no e) = let (p, q) = m.was_met (omega arith) in rw (p, q) (record { kept = a.kept; same = rest_same S w; longer = omega arith; stays = λ i h. refl })
-
-pub met_trans : {S : ℕ} {w : List ℕ} {tail r : ℕ} {v : List ℕ} {r' : ℕ} {u : List ℕ} → Met S w tail r v → Met S v r r' u → Met S w tail r' u
-met_trans p q = record {
-  kept = q.kept;
-  same = rest_trans p.same q.same;
-  longer = omega (arith, p.longer, q.longer);
-  stays = λ i h. q.stays i (omega (arith, p.longer)) ∙ p.stays i h;
-}
+      go (no e) = let (p, q) = m.was_met (omega arith) in rw (p, q) (record { kept = a.kept; same = rest_same S w; stays = λ i h. refl })
 
 -- a turn goes on: y is dealt with
 module _ (G : Graph) (apart : (x y z : ℕ) → G.Edge x y → G.Edge x z → G.label y ≡ G.label z → y ≡ z)

@@ -1,8 +1,8 @@
 -- What is known at the places of the scan's code, from what its steps answered: of the slot x that is taken from the queue, and of target i of its row.
 -- Over plain values; the scan's answers cite it. Assumes nothing.
-use Rattle.std.specs.Prelude.{◌≡◌, ◌≢◌, Bool, true, false, List, ℕ, suc, ◌+◌, ◌<◌, ◌≤◌, get_or}
+use Rattle.std.specs.Prelude.{◌≡◌, ◌≢◌, Bool, true, false, List, ℕ, suc, ◌+◌, ◌<◌, ◌≤◌, get_or, Some, None}
 use Rattle.std.proofs.Common.{sym, ap, ap₂, ◌∙◌, true≢false, arith, add-one}
-use Rattle.order.specs.Turn.{Between}
+use Rattle.order.proofs.Turn.{search_ends}
 use Rattle.recorder.specs.Flag.{live_flag}
 use Rattle.recorder.specs.Recorder.{step_of, bad_of}
 use Rattle.recorder.specs.Slots.{slot_of, record_of_slot, InRange}
@@ -16,22 +16,40 @@ use Rattle.table.specs.Layout.{row_start, target}
 use Rattle.table.specs.BlockOf.{block_of}
 use Rattle.table.specs.declared.Table.{Table}
 use Rattle.table.specs.Recording.{slots_of, graph_of, next_of, state_of, to_of}
-use Rattle.table.proofs.Recording.{block_states, block_sets, Unsaved, state_in, step_slot, step_range}
+use Rattle.table.proofs.Recording.{block_states, block_sets, Unsaved, slots_few, state_in, step_slot, step_range}
 use Rattle.table.proofs.Row.{row_to_lem}
 use Rattle.table.proofs.Sound.{sound}
-use Rattle.search.specs.Workspace.{slot_at, queue_of}
+use Rattle.search.specs.Workspace.{slot_at}
+use Rattle.search.proofs.Workspace.{kept_le}
 use Rattle.search.specs.Meet.{MeetAsks, MeetSays, SameRest}
 use Rattle.search.proofs.MeetLaws.{asks_as, says_as, rest_same, rest_trans, meets}
-use Rattle.search.specs.Scan.{ScanAsks, Stopped}
+use Rattle.search.specs.Scan.{ScanAsks, ScanSays, Stopped}
 use Rattle.search.proofs.Scanning.{Waiting, InRow}
 use Rattle.search.proofs.Follow.{turned_begins, turned_ends, head_state, edge_there, first_asks, other_asks, turned_stops, turned_on, turned_on_saved}
 
+-- ---- the queue holds the starts
+pub waiting_begins : {bytes work₀ : List ℕ} {t : Table} {slots queued : ℕ} → ScanAsks live_flag bytes t slots work₀ queued
+    → Waiting live_flag bytes slots work₀ work₀ 0 queued
+waiting_begins asks = record {
+  slots_are = asks.slots_are;
+  kept = rw (← asks.slots_are) asks.kept;
+  same = rest_same _ _;
+  tail_to = omega (arith, kept_le _ _ _ asks.kept, asks.slots_are);
+  few = slots_few _ asks.formed;
+  between = rw (← asks.slots_are) asks.between;
+}
+
+-- ---- the queue was gone through
+pub scan_ends : {bytes work₀ work : List ℕ} {t : Table} {slots₀ slots queued head tail : ℕ} → ScanAsks live_flag bytes t slots₀ work₀ queued
+    → Waiting live_flag bytes slots work₀ work head tail → tail ≤ head → ScanSays live_flag bytes slots₀ work₀ None work
+scan_ends asks v h = record { same = rw asks.slots_are v.same; seen = search_ends v.between (omega (arith, v.between.log.head_le)) }
+
 -- ---- r is the record of the slot that stands at head in the queue
-module _ {bytes work₀ : List ℕ} {t : Table} {slots queued : ℕ} (asks : ScanAsks live_flag bytes t slots work₀ queued)
-    {work : List ℕ} {head tail : ℕ} (v : Waiting live_flag bytes work₀ work head tail) (h : head < tail)
+module _ {bytes work₀ : List ℕ} {t : Table} {slots₀ queued : ℕ} (asks : ScanAsks live_flag bytes t slots₀ work₀ queued)
+    {slots : ℕ} {work : List ℕ} {head tail : ℕ} (v : Waiting live_flag bytes slots work₀ work head tail) (h : head < tail)
     {r : Record} (is : r ≡ record_of_slot t.states t.sets (get_or work (slots + head) 0)) where
   x_is : slot_at (slots_of bytes) work head ≡ get_or work (slots + head) 0
-  x_is = ap (λ (S : ℕ). get_or work (S + head) 0) (sym asks.slots_are)
+  x_is = ap (λ (S : ℕ). get_or work (S + head) 0) (sym v.slots_are)
 
   r_is : r ≡ at (block_of bytes) (get_or work (slots + head) 0)
   unfolding block_of
@@ -60,7 +78,7 @@ module _ {bytes work₀ : List ℕ} {t : Table} {slots queued : ℕ} (asks : Sca
         read = record {
           formed = asks.formed;
           laid = asks.laid;
-          slots_are = asks.slots_are;
+          slots_are = v.slots_are;
           r_is = r_is;
           leaves = record { states = block_states bytes ∙ sym asks.laid.states_are; goal_is = sym g; fair_is = sym f };
           to_is = to ∙ ap (row_start bytes) (add-one r.s) ∙ ap (λ (r : Record). row_start bytes (suc r.s)) r_is;
@@ -73,8 +91,15 @@ module _ {bytes work₀ : List ℕ} {t : Table} {slots queued : ℕ} (asks : Sca
 module _ {bytes : List ℕ} {t : Table} {slots : ℕ} {w₀ work : List ℕ} {head tail x : ℕ} {r : Record} {goal : Bool} {fair to i : ℕ}
     (k : InRow live_flag bytes t slots w₀ work head tail x r goal fair to i) where
   -- at its end the turn ends
-  pub row_ended : to ≤ i → Between (graph_of live_flag bytes) (queue_of (slots_of bytes) work) (head + 1) tail
-  row_ended l = rw (add-one head) (turned_ends live_flag _ k.read.formed _ _ _ _ _ k.turned (omega (arith, k.read.to_is, k.turned.to)))
+  pub waiting_goes_on : {slots₀ : ℕ} {u : List ℕ} {tail₀ : ℕ} → Waiting live_flag bytes slots₀ u w₀ head tail₀ → to ≤ i → Waiting live_flag bytes slots u work (head + 1) tail
+  waiting_goes_on v l = record {
+    slots_are = k.read.slots_are;
+    kept = k.turned.kept;
+    same = rest_trans v.same k.same;
+    tail_to = kept_le _ _ _ k.turned.kept;
+    few = v.few;
+    between = rw (add-one head) (turned_ends live_flag _ k.read.formed _ _ _ _ _ k.turned (omega (arith, k.read.to_is, k.turned.to)));
+  }
 
   module _ (l : i < to) where
     below : i < to_of bytes x
@@ -111,8 +136,8 @@ module _ {bytes : List ℕ} {t : Table} {slots : ℕ} {w₀ work : List ℕ} {he
             ∙ ap (bad_of (block_of bytes)) (step_is true says ∙ sym (at_next live_flag (block_of bytes) (sound bytes k.read.formed) x (target bytes i) true edge_at))
 
         -- where it is bad, the scan stops
-        pub stops : b ≡ true → Stopped live_flag bytes slots work head (next_of live_flag bytes x (target bytes i) true)
-        stops e = rw k.read.slots_are (turned_stops live_flag _ k.read.formed _ _ _ _ _ k.turned below (sym bad_is ∙ e))
+        stops : b ≡ true → Stopped live_flag bytes (slots_of bytes) work head (next_of live_flag bytes x (target bytes i) true)
+        stops e = turned_stops live_flag _ k.read.formed _ _ _ _ _ k.turned below (sym bad_is ∙ e)
 
         good : b ≡ false → ¬ (graph_of live_flag bytes).Bad (next_of live_flag bytes x (target bytes i) true)
         good e h = true≢false (sym h ∙ sym bad_is ∙ e)
@@ -160,3 +185,9 @@ module _ {bytes : List ℕ} {t : Table} {slots : ℕ} {w₀ work : List ℕ} {he
                     turned = turned_on live_flag _ k.read.formed _ _ _ _ _ k.turned below (good e) _ _ met unsaved _ _ met';
                     same = rest_trans first_same (meets other met').same;
                   }
+
+-- ---- the scan stops at a bad slot
+pub scan_stops : {bytes work₀ w₀ work : List ℕ} {t : Table} {slots₀ slots queued slots' : ℕ} {head tail₀ tail x : ℕ} {r : Record} {goal : Bool} {fair to i next : ℕ} {q : Record} {b : Bool}
+    → ScanAsks live_flag bytes t slots₀ work₀ queued → Waiting live_flag bytes slots work₀ w₀ head tail₀ → InRow live_flag bytes t slots' w₀ work head tail x r goal fair to i → i < to
+    → next ≡ target bytes i → StepSays r t.states goal fair next true q → BadSays q t.sets b → b ≡ true → ScanSays live_flag bytes slots₀ work₀ (Some head) work
+scan_stops asks v k l is says test e = rw asks.slots_are (record { same = rest_trans v.same k.same; seen = (_, stops k l is says test e) })

@@ -14,8 +14,9 @@ use Rattle.search.specs.Workspace.{queue_of, Kept}
 use Rattle.search.specs.Meet.{SameRest}
 use Rattle.search.proofs.Follow.{Turned}
 
--- Between two turns. w₀ is the workspace as it came.
-pub record Waiting (F : Flag) (b w₀ w : List ℕ) (head tail : ℕ) : Type 0 where
+-- Between two turns, of S slots. w₀ is the workspace as it came.
+pub record Waiting (F : Flag) (b : List ℕ) (S : ℕ) (w₀ w : List ℕ) (head tail : ℕ) : Type 0 where
+  pub slots_are : S ≡ slots_of b
   pub kept : Kept (slots_of b) w tail
   -- the words past the first 2S are as they came
   pub same : SameRest (slots_of b) w₀ w

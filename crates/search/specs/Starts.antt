@@ -18,7 +18,8 @@ pub record StartsAsk (b : List ℕ) (t : Table) (S : ℕ) (w : List ℕ) : Type 
   pub room : 2 * S ≤ length w
   pub fresh : (x : ℕ) → x < S → origin_at w x ≡ 0
 
--- every start is queued, in the order of their labels, and nothing else; the words past the first 2S stay. The answer is the queue's length.
+-- every start is queued, in the order of their labels, and nothing else; the words past the first 2S stay. r slots are
+-- queued.
 pub record StartsSay (F : Flag) (b : List ℕ) (S : ℕ) (w : List ℕ) (r : ℕ) (w' : List ℕ) : Type 0 where
   pub kept : Kept S w' r
   pub same : SameRest S w w'

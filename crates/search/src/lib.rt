@@ -2,7 +2,7 @@
 #![tactic(auto)]
 
 mod climb;
-mod meet;
+mod queue;
 mod scan;
 mod starts;
 
@@ -25,8 +25,8 @@ fn find(bytes: &[u8], t: Table, work: &mut [u32], report: &mut [u32], slots: usi
 {
     // The queue's words may hold anything: each is written before it is read.
     writing::clear(work, slots);
-    let queued = starts::queue_starts(bytes, t, work, slots);
-    let Some(head) = scan::scan(bytes, t, work, slots, queued) else {
+    let mut queue = starts::queue_starts(bytes, t, work, slots);
+    let Some(head) = scan::scan(bytes, t, &mut queue) else {
         writing::clear(work, 2 * slots);
         return None;
     };

@@ -1,29 +1,24 @@
 // The nested scan of queue and row, left at the first bad slot, in the middle of a row if need be.
 ghost use Rattle.recorder.specs.Flag.{live_flag};
+ghost use Rattle.search.specs.Meet.{SameQueue};
 ghost use Rattle.search.specs.Scan.{ScanAsks, ScanSays};
 
-use super::meet;
+use super::queue::Queue;
 use recorder::Record;
 use table::Table;
 
 // Answers the index of the queue that leads to the first bad slot, or nothing where no run ends bad.
-pub(crate) fn scan(
-    bytes: &[u8],
-    t: Table,
-    work: &mut [u32],
-    slots: usize,
-    queued: usize,
-) -> Option<usize>
-    requires { ScanAsks live_flag bytes.now t slots work.old queued }
-    ensures { ScanSays live_flag bytes.now slots work.old result work.new }
+pub(crate) fn scan(bytes: &[u8], t: Table, queue: &mut Queue) -> Option<usize>
+    requires { ScanAsks live_flag bytes.now t queue.old.slots queue.old.work.now queue.old.tail }
+    ensures says { ScanSays live_flag bytes.now queue.old.slots queue.old.work.now result queue.new.work.now }
+    ensures same { SameQueue queue.old queue.new }
 {
     let n = t.states;
     let m = t.sets;
     let mut head = 0;
-    let mut tail = queued;
     // The queue grows while it is read, so its end is tested at each turn.
-    while head < tail {
-        let x = work[slots + head] as usize;
+    while head < queue.tail {
+        let x = queue.work[queue.slots + head] as usize;
         let r = Record::of_slot(x, n, m);
         let goal = table::has_goal(bytes, t, r.s);
         let fair = table::fair(bytes, t, r.s);
@@ -36,11 +31,11 @@ pub(crate) fn scan(
                 return Some(head);
             }
             let y = saving.slot(n, m);
-            tail = meet::meet(work, slots, tail, y, head + 2);
+            queue.meet(y, head + 2);
             if r.t == n {
                 let plain = r.step(n, goal, fair, next, false);
                 let z = plain.slot(n, m);
-                tail = meet::meet(work, slots, tail, z, head + 2);
+                queue.meet(z, head + 2);
             }
         }
         head += 1;

@@ -1,24 +1,37 @@
 // Queueing the starts, in the order of their labels.
+ghost use Rattle.std.specs.Prelude.{◌≡◌};
 ghost use Rattle.recorder.specs.Flag.{live_flag};
 ghost use Rattle.search.specs.Starts.{StartsAsk, StartsSay};
 
-use super::meet;
+use super::queue::Queue;
 use recorder::Record;
 use table::Table;
 
-// Meets the slot of each start's record, as a start; answers the queue's length.
-pub(crate) fn queue_starts(bytes: &[u8], t: Table, work: &mut [u32], slots: usize) -> usize
+// A queue in the words of the workspace, that holds the slot of each start's record, met as a start.
+pub(crate) fn queue_starts<'a>(
+    bytes: &[u8],
+    t: Table,
+    work: &'a mut [u32],
+    slots: usize,
+) -> Queue<'a>
     requires { StartsAsk bytes.now t slots work.old }
-    ensures { StartsSay live_flag bytes.now slots work.old result work.new }
+    ensures says { StartsSay live_flag bytes.now slots work.old result.tail result.work.now }
+    ensures slots { result.slots ≡ slots }
+    ensures same_reference { result.work.ghost_name ≡ work.entry.ghost_name }
 {
     let n = t.states;
     let m = t.sets;
-    let mut tail = 0;
+    let mut queue = Queue {
+        work,
+        slots,
+        tail: 0,
+    };
     for s in 0..n {
-        if table::is_start(bytes, t, s) {
+        let start = table::is_start(bytes, t, s);
+        if start {
             let x = Record::start(s, n).slot(n, m);
-            tail = meet::meet(work, slots, tail, x, 1);
+            queue.meet(x, 1);
         }
     }
-    tail
+    queue
 }

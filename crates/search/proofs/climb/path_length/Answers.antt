@@ -1,8 +1,5 @@
 -- It counts the letters that the climb passes.
-use mathlib.Core.Path.{refl, ap}
-use mathlib.Core.List.{[]}
-use native.Mathlib.Omega.{arith}
-use lib.ListN.{length}
+use Rattle.std.proofs.Common.{refl, ap, [], arith, length}
 use Rattle.search.proofs.ClimbLaws.{climb_begins, climb_down, climb_goes_on, climb_ends}
 use Rattle.search.proofs.climb.path_length.Goals as goal
 

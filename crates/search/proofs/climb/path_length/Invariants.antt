@@ -1,8 +1,5 @@
 -- What the loop keeps.
-use mathlib.Core.Path.{◌≡◌}
-use mathlib.Core.List.{List}
-use Prim.Native.Nat.{ℕ, ◌+◌, ◌≤◌}
-use lib.ListN.{length}
+use Rattle.std.proofs.Common.{◌≡◌, List, ℕ, ◌+◌, ◌≤◌, length}
 use Rattle.order.specs.Word.{Word}
 use Rattle.search.proofs.ClimbLaws.{Climbing}
 use Rattle.search.proofs.climb.path_length.Given as goal
