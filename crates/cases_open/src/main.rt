@@ -9,21 +9,31 @@ mod quoted;
 use cases::{Numbers, Refused};
 use made::Change::{Mark, Sets};
 use made::Made;
+use quote::Sheet;
 use std::{fmt, io};
-use table::Opened;
+use table::{Refusal, Table};
+
+// What is printed as the sheet of a refused table.
+const ZEROS: Sheet = Sheet {
+    slots: 0,
+    edges: 0,
+    bytes: 0,
+    members: [0, 0, 0, 0],
+    board: Some(0),
+};
 
 // A name, and what its bytes are.
 type Case<'a> = (&'a str, Made<'a>);
 
 // What a table opens as.
 #[derive(Clone, Copy)]
-struct Answer(Opened);
+struct Answer(Result<Table, Refusal>);
 
 impl fmt::Display for Answer {
     fn fmt<W: fmt::Write>(&self, f: &mut fmt::Formatter<W>) -> fmt::Result {
         match self.0 {
-            Opened::Accepted(t) => write!(f, "accepted {} {} {}", t.states, t.edges, t.sets),
-            Opened::Refused(why) => write!(f, "{}", Refused(why)),
+            Ok(t) => write!(f, "accepted {} {} {}", t.states, t.edges, t.sets),
+            Err(why) => write!(f, "{}", Refused(why)),
         }
     }
 }
@@ -56,16 +66,17 @@ fn open_each_bit(rt: &impl Print) -> io::Result<()> {
 fn quote_each(rt: &impl Print, cases: &[Case]) -> io::Result<()> {
     for &(name, made) in cases {
         let file = made.file();
-        let q = quote::quote(file.bytes());
-        let s = q.sheet;
+        let quoted = quote::quote(file.bytes());
+        let s = quoted.map_or(ZEROS, |q| q.sheet);
         print!(rt;
             "{name}: {}, sheet {} {} {}, ",
-            Answer(q.answer),
+            Answer(quoted.map(|q| q.table)),
             s.slots,
             s.edges,
             s.bytes
         )?;
-        println!(rt; "board {}, members{}", s.board, Numbers(&s.members))?;
+        let board = s.board.unwrap_or(8);
+        println!(rt; "board {board}, members{}", Numbers(&s.members))?;
     }
     Ok(())
 }

@@ -1,7 +1,7 @@
 // A case: one line with its name and how many words are lent; `lasso` k l and the run, or `holds`, or `refused` number place; then what the buffers
 // have.
 use cases::{Numbers, Pattern, Refused};
-use search::Answer;
+use search::Lasso;
 use std::io;
 
 // 100, 101, 102 and so on: no state of a table has such a number.
@@ -23,17 +23,17 @@ pub(crate) fn line(
 ) -> io::Result<()> {
     print!(rt; "{name}, {} and {} words: ", work.len(), report.len())?;
     let taken = match search::search(table, work, report) {
-        Answer::Lasso { k, l } => {
+        Ok(Some(Lasso { k, l })) => {
             // A run of length k has k + 1 states.
             let taken = k.saturating_add(1).min(report.len());
             print!(rt; "lasso {k} {l}, run{}", Numbers(&report[..taken]))?;
             taken
         }
-        Answer::Holds => {
+        Ok(None) => {
             print!(rt; "holds")?;
             0
         }
-        Answer::Refused(why) => {
+        Err(why) => {
             print!(rt; "{}", Refused(why))?;
             0
         }

@@ -6,7 +6,6 @@ use cases::Refused;
 use recorder::Record;
 use samples::{A, D, E, F, G, GOAL_AT_THE_START as START, TOO_MANY, WRONG_MARK};
 use std::io;
-use stepping::Stepped;
 
 const FAR: usize = usize::MAX;
 
@@ -71,10 +70,10 @@ fn main(rt: HostRuntime) -> io::Result<()> {
             v,
         };
         match stepping::step(table, r, next, wish) {
-            Stepped::Moved(Record { s, t, live, v }) => {
+            Ok(Record { s, t, live, v }) => {
                 println!(rt; "{name}: {s} {t} {} {v}", u8::from(live))?;
             }
-            Stepped::Refused(why) => println!(rt; "{name}: {}", Refused(why))?,
+            Err(why) => println!(rt; "{name}: {}", Refused(why))?,
         }
     }
     Ok(())

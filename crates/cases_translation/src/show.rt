@@ -1,7 +1,6 @@
 // A case: one line with its name and how many bytes are lent; `written` and how many, or `refused` number place; then what the output has.
 use cases::{Numbers, Pattern, Refused};
 use std::io;
-use translation::Answer;
 
 // What the output has before a translation.
 pub(crate) const BEFORE: Pattern<u8> = Pattern {
@@ -35,11 +34,11 @@ pub(crate) fn line(
 ) -> io::Result<()> {
     print!(rt; "{name}, {} bytes: ", out.len())?;
     let written = match translation::translate(table, out) {
-        Answer::Written(n) => {
+        Ok(n) => {
             print!(rt; "written {n}")?;
             n
         }
-        Answer::Refused(why) => {
+        Err(why) => {
             print!(rt; "{}", Refused(why))?;
             0
         }
