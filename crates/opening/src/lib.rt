@@ -5,7 +5,7 @@
 mod faults;
 
 ghost use Rattle.std.specs.Prelude.{◌≡◌, ◌++◌};
-ghost use Rattle.table.specs.Open.{count_lines, row_lines, opened_by, open_of};
+ghost use Rattle.table.specs.Open.{count_lines, row_lines, opened_by, open_of, why_of};
 
 use table::{Refusal, Table};
 
@@ -65,4 +65,16 @@ pub fn open(bytes: &[u8]) -> Result<Table, Refusal>
         return Err(Refusal::WrongMark(s));
     }
     Ok(t)
+}
+
+// The refusal of a table that is not accepted. Each entry calls this in the `else` of its `let .. else`, the form that docs/RULES.md, "Forms in the
+// code", names for an entry: an `else` binds nothing.
+pub fn why(answer: Result<Table, Refusal>) -> Refusal
+    ensures { result ≡ why_of answer }
+{
+    match answer {
+        Err(r) => r,
+        // Not reached from an entry: there the accepted tables were taken before.
+        Ok(_) => Refusal::TooShort,
+    }
 }

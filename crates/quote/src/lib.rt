@@ -62,7 +62,10 @@ fn sheet_of(bytes: &[u8], t: Table) -> Sheet
 pub fn quote(bytes: &[u8]) -> Result<Quoted, Refusal>
     ensures { result ≡ quote_of bytes.now }
 {
-    let table = opening::open(bytes)?;
+    let opened = opening::open(bytes);
+    let Ok(table) = opened else {
+        return Err(opening::why(opened));
+    };
     Ok(Quoted {
         table,
         sheet: sheet_of(bytes, table),

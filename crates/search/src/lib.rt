@@ -43,7 +43,10 @@ fn find(bytes: &[u8], t: Table, work: &mut [u32], report: &mut [u32], slots: usi
 pub fn search(bytes: &[u8], work: &mut [u32], report: &mut [u32]) -> Result<Option<Lasso>, Refusal>
     ensures { SearchSays bytes.now work.old report.old result work.new report.new }
 {
-    let t = opening::open(bytes)?;
+    let opened = opening::open(bytes);
+    let Ok(t) = opened else {
+        return Err(opening::why(opened));
+    };
     let slots = recorder::slot_count(t.states, t.sets);
     if work.len() < 2 * slots {
         return Err(Refusal::ShortWorkspace);

@@ -17,28 +17,30 @@ pub(crate) fn scan(bytes: &[u8], t: Table, queue: &mut Queue) -> Option<usize>
     let m = t.sets;
     let mut head = 0;
     // The queue grows while it is read, so its end is tested at each turn.
-    while head < queue.tail {
-        let x = queue.work[queue.slots + head] as usize;
-        let r = Record::of_slot(x, n, m);
-        let goal = table::has_goal(bytes, t, r.s);
-        let fair = table::fair(bytes, t, r.s);
-        let from = table::row_start(bytes, r.s);
-        let to = table::row_start(bytes, r.s + 1);
-        for i in from..to {
-            let next = table::target(bytes, t, i);
-            let saving = r.step(n, goal, fair, next, true);
-            if saving.is_bad(m) {
-                return Some(head);
+    'queue: {
+        while head < queue.tail {
+            let x = queue.work[queue.slots + head] as usize;
+            let r = Record::of_slot(x, n, m);
+            let goal = table::has_goal(bytes, t, r.s);
+            let fair = table::fair(bytes, t, r.s);
+            let from = table::row_start(bytes, r.s);
+            let to = table::row_start(bytes, r.s + 1);
+            for i in from..to {
+                let next = table::target(bytes, t, i);
+                let saving = r.step(n, goal, fair, next, true);
+                if saving.is_bad(m) {
+                    break 'queue Some(head);
+                }
+                let y = saving.slot(n, m);
+                queue.meet(y, head + 2);
+                if r.t == n {
+                    let plain = r.step(n, goal, fair, next, false);
+                    let z = plain.slot(n, m);
+                    queue.meet(z, head + 2);
+                }
             }
-            let y = saving.slot(n, m);
-            queue.meet(y, head + 2);
-            if r.t == n {
-                let plain = r.step(n, goal, fair, next, false);
-                let z = plain.slot(n, m);
-                queue.meet(z, head + 2);
-            }
+            head += 1;
         }
-        head += 1;
+        None
     }
-    None
 }

@@ -18,7 +18,7 @@ use Rattle.table.specs.Layout.{states_of}
 use Rattle.table.specs.WellFormed.{WellFormed}
 use Rattle.table.specs.Inside.{MarkInside}
 use Rattle.table.proofs.Inside.{mark_inside}
-use Rattle.table.proofs.WellFormed.{well_formed, laid, opened}
+use Rattle.table.proofs.WellFormed.{well_formed, laid}
 use Rattle.table.proofs.Sound.{sound}
 use Rattle.table.specs.declared.Table.{Table}
 use Rattle.table.specs.declared.refusal.Refusal.{Refusal}
@@ -43,11 +43,11 @@ pub record Reads (b : List ℕ) (t : Table) (r : Record) : Type 0 where
   pub state_in : (t.states ≡ states_of b) × (r.s < t.states)
   pub marks : MarkInside b t r.s
 
-pub reads : (b : List ℕ) (t : Table) (r : Record) (s' : ℕ) → Ok t ≡ open_of b → record_fits t.states t.sets r s' ≡ true → Reads b t r
+pub reads : (b : List ℕ) (t : Table) (r : Record) (s' : ℕ) → open_of b ≡ Ok t → record_fits t.states t.sets r s' ≡ true → Reads b t r
 reads b t r s' o f =
-    let k = opened b t o in
+    let k = laid b t o in
     let l = ((fits_says t.states t.sets r s').0 f).0.0.0 in
-    record { formed = k.formed; state_in = (k.laid.states_are, l); marks = mark_inside b t k.laid r.s l }
+    record { formed = well_formed b t o; state_in = (k.states_are, l); marks = mark_inside b t k r.s l }
 
 -- a refusal is no move
 refused_not_moved : (why : Refusal) (r' : Record) → Err why ≡ Ok r' → ⊥

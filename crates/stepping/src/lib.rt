@@ -20,7 +20,10 @@ fn fits(n: usize, m: usize, r: Record, next: usize) -> bool
 pub fn step(bytes: &[u8], r: Record, next: usize, wish: bool) -> Result<Record, Refusal>
     ensures { result ≡ stepped_of bytes.now r next wish }
 {
-    let t = opening::open(bytes)?;
+    let opened = opening::open(bytes);
+    let Ok(t) = opened else {
+        return Err(opening::why(opened));
+    };
     if !fits(t.states, t.sets, r, next) {
         return Err(Refusal::WrongRecord);
     }

@@ -1,5 +1,5 @@
 -- Laws of specs/WellFormed.antt. Assumes nothing.
-use Rattle.std.specs.Prelude.{◌≡◌, refl, ◌↔◌, List, ℕ, suc, ◌+◌, ◌≤◌, ◌<◌, None, Result, Ok}
+use Rattle.std.specs.Prelude.{Err, ◌≡◌, refl, ◌↔◌, List, ℕ, suc, ◌+◌, ◌≤◌, ◌<◌, None, Result, Ok}
 use Rattle.std.proofs.Common.{sym, ap, ◌∙◌, zero-le}
 use Rattle.order.proofs.Settled.{settled}
 use Rattle.recorder.specs.Block.{HasBit}
@@ -8,7 +8,7 @@ use Rattle.table.proofs.First.{first_none}
 use Rattle.table.specs.Given.{first_given}
 use Rattle.table.proofs.Given.{none_given, test_off, index_off}
 use Rattle.table.specs.Layout.{states_of, sets_of, table_of, row_start, mark}
-use Rattle.table.specs.Open.{row_empty, mark_wrong, count_lines, row_lines, content_lines, lines_of, open_of}
+use Rattle.table.specs.Open.{row_empty, mark_wrong, count_lines, row_lines, content_lines, lines_of, open_of, why_of}
 use Rattle.table.proofs.Bits.{low_bits}
 use Rattle.table.proofs.Facts.{facts}
 use Rattle.table.specs.LaidOut.{LaidOut}
@@ -81,11 +81,19 @@ laid b t e =
 pub open_settled : (b : List ℕ) (x y : Result Table Refusal) → x ≡ open_of b → y ≡ open_of b → x ≡ y
 open_settled b x y p q = settled p q
 
--- what a job has of a table that it opened
+-- an answer of opening that is a refusal, of which `why` gave r, is the refusal r
+pub why_is : (x : Result Table Refusal) (r r' : Refusal) → x ≡ Err r' → r ≡ why_of x → x ≡ Err r
+why_is x r r' q e = cc
+
+-- so an entry that could not take the table hands on opening's refusal
+pub refused_why : (b : List ℕ) (x : Result Table Refusal) (r r' : Refusal) → x ≡ open_of b → x ≡ Err r' → r ≡ why_of x → open_of b ≡ Err r
+refused_why b x r r' p q e = sym p ∙ why_is x r r' q e
+
+-- and one that took it has this
 pub record Opened (b : List ℕ) (t : Table) : Type 0 where
   pub accepted : open_of b ≡ Ok t
   pub formed : WellFormed b
   pub laid : LaidOut b t
 
-pub opened : (b : List ℕ) (t : Table) → Ok t ≡ open_of b → Opened b t
-opened b t e = record { accepted = sym e; formed = well_formed b t (sym e); laid = laid b t (sym e) }
+pub opened : (b : List ℕ) (x : Result Table Refusal) (t : Table) → x ≡ open_of b → x ≡ Ok t → Opened b t
+opened b x t p q = let e : open_of b ≡ Ok t = sym p ∙ q in record { accepted = e; formed = well_formed b t e; laid = laid b t e }

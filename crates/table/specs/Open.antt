@@ -94,3 +94,8 @@ opened_by b lines = answer_of b (first_given lines)
 -- what opening the bytes answers
 unfoldable pub open_of : List ℕ → Result Table Refusal
 open_of b = opened_by b (lines_of b)
+
+-- the refusal of an answer that is one; TooShort of an accepted table, which no `let .. else` hands on
+abbrev pub why_of : Result Table Refusal → Refusal
+why_of (Err r) = r
+why_of (Ok t) = TooShort

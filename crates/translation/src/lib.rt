@@ -14,7 +14,10 @@ use table::Refusal;
 pub fn translate(bytes: &[u8], out: &mut [u8]) -> Result<usize, Refusal>
     ensures { TranslateSays bytes.now out.old result out.new }
 {
-    let t = opening::open(bytes)?;
+    let opened = opening::open(bytes);
+    let Ok(t) = opened else {
+        return Err(opening::why(opened));
+    };
     let slots = recorder::slot_count(t.states, t.sets);
     let edges = quote::edge_count(t.states, t.edges, t.sets);
     let targets = 32 + 4 * slots;

@@ -1,27 +1,26 @@
 -- The table is opened and taken, the code goes down line 11, and then it lends each part of the output to its writer.
 use Rattle.std.proofs.Common.{Ok, ◌≡◌, sym, ◌∙◌, arith}
-use Rattle.std.proofs.lemmas.Result.{err_from_is_err_and}
 use Rattle.std.proofs.lemmas.Grind.{common_steps}
 use Rattle.table.specs.Open.{open_of}
-use Rattle.table.proofs.WellFormed.{laid}
+use Rattle.table.proofs.WellFormed.{laid, refused_why}
 use Rattle.translation.proofs.Laws.{Counted, table_refused, asks, slots_are, sizes_small, too_short, targets_are, translated}
 use Rattle.translation.proofs.translate.Goals as goal
-use Rattle.translation.proofs.translate.Goals.{In_ok-t, After-edge_count-edges}
+use Rattle.translation.proofs.translate.Goals.{In-Ok, After-edge_count-edges}
 
-opened : (c : In_ok-t) → open_of c.args.bytes.now ≡ Ok c.in_ok-t.t
-opened c = sym c.in_ok-t.ensures
+opened : (c : In-Ok) → open_of c.args.bytes.now ≡ Ok c.in-Ok.t
+opened c = sym c.open-opened.ensures ∙ c.in-Ok.is
 
-counted : (c : After-edge_count-edges) → Counted c.args.bytes.now c.in_ok-t.t c.slot_count-slots.result c.edge_count-edges.result
-counted c = record { opened = sym c.in_ok-t.ensures; slots_by = c.slot_count-slots.ensures; edges_by = c.edge_count-edges.ensures }
+counted : (c : After-edge_count-edges) → Counted c.args.bytes.now c.in-Ok.t c.slot_count-slots.result c.edge_count-edges.result
+counted c = record { opened = sym c.open-opened.ensures ∙ c.in-Ok.is; slots_by = c.slot_count-slots.ensures; edges_by = c.edge_count-edges.ensures }
 
-pub returns-in_err-t : goal.returns-in_err-t
-returns-in_err-t c = let p = err_from_is_err_and c.from_residual.result c.from_residual.ensures.1 in rw (p.1, p.2) (table_refused _ _ _ (sym c.in_err-t.ensures))
+pub returns-in_default : goal.returns-in_default
+returns-in_default c = table_refused _ _ _ (refused_why _ _ _ _ c.open-opened.ensures c.in_default.is c.why.ensures)
 
 pub slot_count-slots-requires : goal.slot_count-slots-requires
 slot_count-slots-requires c = let l = laid _ _ (opened c) in (l.states_to, omega (arith, l.sets_to))
 
 pub edge_count-edges-requires : goal.edge_count-edges-requires
-edge_count-edges-requires c = let l = laid _ _ (opened (goal.at.edge_count-edges-requires c).In_ok-t) in (l.states_to, l.edges_to, omega (arith, l.sets_to))
+edge_count-edges-requires c = let l = laid _ _ (opened (goal.at.edge_count-edges-requires c).In-Ok) in (l.states_to, l.edges_to, omega (arith, l.sets_to))
 
 pub overflow_mul-targets : goal.overflow_mul-targets
 overflow_mul-targets c = omega (arith, sizes_small (counted c))

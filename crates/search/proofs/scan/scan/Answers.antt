@@ -84,5 +84,5 @@ loop-head-preserved c = record {
   same = queue_trans c.loop-head.invariant.same c.loop-i.invariant.same;
 }
 
-pub returns-clause-says : goal.returns-clause-says
-returns-clause-says c = scan_ends c.requires c.loop-head.invariant.waiting c.loop-head-test.false
+pub returns-after-loop-head-clause-says : goal.returns-after-loop-head-clause-says
+returns-after-loop-head-clause-says c = scan_ends c.requires c.loop-head.invariant.waiting c.loop-head-test.false
