@@ -1,12 +1,14 @@
 -- Laws of specs/Puts.antt. Assumes nothing.
-use Rattle.std.specs.Prelude.{◌≡◌, refl, List, [], ◌∷◌, ◌++◌, ℕ, suc, ◌+◌, ◌*◌, ◌^◌, ◌≤◌, ◌<◌, length, get_or, set, take}
-use Rattle.std.proofs.Common.{sym, ap, ◌∙◌, subst, append_assoc, append-nil, arith, length-append, length-set, take-suc, take_all}
+use Rattle.std.specs.Prelude.{◌≡◌, refl, List, [], ◌∷◌, ◌++◌, ℕ, suc, ◌+◌, ◌*◌, ◌^◌, ◌≤◌, ◌<◌, length, get_or, set, take, drop, ◌-◌}
+use Rattle.std.proofs.Common.{sym, ap, ◌∙◌, subst, append_assoc, append-nil, arith, length-append, length-set, take-suc, take_all, get_or-append-add}
+use Rattle.std.proofs.Math.ListN.{get_or-append}
 use Rattle.writing.specs.Placed.{placed}
-use Rattle.writing.proofs.Placed.{placed_none, placed_one, placed_on, length-placed}
+use Rattle.writing.proofs.Placed.{placed_none, placed_one, placed_on, part_placed, length-placed}
 use Rattle.io.specs.Digits.{last_digits, IsDigitCount}
 use Rattle.lines.proofs.Decimal.{decimal_is, decimal_short}
 use Rattle.lines.specs.Text.{decimal_of, numbers_of, line_of}
-use Rattle.lines.specs.Puts.{Puts, Begun}
+use Rattle.lines.specs.Puts.{Puts, Begun, Adds}
+use Rattle.lines.specs.declared.page.Page.{Page}
 
 -- the buffer keeps its length
 pub puts_length : {text : List ℕ} {from : ℕ} {w : List ℕ} {to : ℕ} {w' : List ℕ} → Puts text from w to w' → length w' ≡ length w
@@ -30,6 +32,11 @@ puts_on {xs} {ys} {from} {mid} {to} {w} p q =
 pub puts_none : (from : ℕ) (w : List ℕ) → from ≤ length w → Puts [] from w (from + 0) w
 puts_none from w h = record { has = placed_none from w; ends = refl; room = omega arith }
 
+-- a text that is copied to its place
+pub puts_copied : (text : List ℕ) (from : ℕ) (w : List ℕ) → from + length text ≤ length w
+    → Puts text from w (from + length text) (take from w ++ (text ++ drop (from + length text - from) (drop from w)))
+puts_copied text from w h = record { has = part_placed from (from + length text - from) text w (omega arith); ends = refl; room = h }
+
 pub puts_byte : (text : List ℕ) (from i : ℕ) {w w' : List ℕ} → Puts (take i text) from w (from + i) w' → i < length text → from + length text ≤ length w
     → Puts (take (i + 1) text) from w (from + (i + 1)) (set w' (from + i) (get_or text i 0))
 puts_byte text from i {w} {w'} p h r =
@@ -43,20 +50,34 @@ puts_byte text from i {w} {w'} p h r =
 pub puts_spaced : (text : List ℕ) (from : ℕ) {w w' : List ℕ} {to : ℕ} → from < length w → Puts text (from + 1) (set w from 32) to w' → Puts (32 ∷ text) from w to w'
 puts_spaced text from {w} h q = puts_on (record { has = placed_one from 32 w h; ends = refl; room = omega arith }) q
 
--- the digits that the kit's `decimal` gives for a number of 64 bits have room, and are the number in decimal
-module _ (n k : ℕ) (d : List ℕ) (small : n < 2 ^ 64) (fewest : IsDigitCount 10 1 n k) (count : k ≡ length (take k d)) where
-  pub digits_fit : (from : ℕ) (w : List ℕ) → from + 21 ≤ length w → from + 1 + length (take k d) ≤ length (set w from 32)
-  digits_fit from w h = simp length-set (omega (arith, decimal_short n k small fewest, count))
+-- the digits that the kit's `decimal` gives for a number of 64 bits have room after a space, and are the number in decimal
+module _ (n k : ℕ) (d : List ℕ) (small : n < 2 ^ 64) (fewest : IsDigitCount 10 1 n k) (count : k ≡ length (take k d)) {from mid : ℕ} {w w' : List ℕ} (room : from + 21 ≤ length w)
+    (space : Puts (32 ∷ []) from w mid w') where
+  pub digits_fit : mid + length (take k d) ≤ length w'
+  digits_fit = let e = space.ends in omega (arith, decimal_short n k small fewest, count, puts_length space)
 
-  pub puts_number : {from to : ℕ} {w w' : List ℕ} → take k d ≡ last_digits 10 k n → from + 21 ≤ length w → Puts (take k d) (from + 1) (set w from 32) to w'
-      → Puts (32 ∷ decimal_of n) from w to w' × (to ≤ from + 21)
-  puts_number {from} {to} {w} {w'} e h p =
+  pub puts_number : {to : ℕ} {w'' : List ℕ} → take k d ≡ last_digits 10 k n → Puts (take k d) mid w' to w'' → Puts (32 ∷ decimal_of n) from w to w'' × (to ≤ from + 21)
+  puts_number {to} {w''} e p =
       let short = decimal_short n k small fewest in
       let ends = p.ends in
-      (subst (λ (l : List ℕ). Puts (32 ∷ l) from w to w') (e ∙ decimal_is n k fewest short) (puts_spaced (take k d) from (omega arith) p), omega (arith, count))
+      let s = space.ends in
+      (subst (λ (l : List ℕ). Puts (32 ∷ l) from w to w'') (e ∙ decimal_is n k fewest short) (puts_on space p), omega (arith, count))
 
 pub puts_all : (text : List ℕ) (from i : ℕ) {w w' : List ℕ} → Puts (take i text) from w (from + i) w' → length text ≤ i → Puts text from w (from + i) w'
 puts_all text from i {w} {w'} p h = subst (λ (l : List ℕ). Puts l from w (from + i) w') (take_all i text h) p
+
+-- ---- a page
+
+-- text after text
+pub adds_on : {xs ys : List ℕ} {p q r : Page} → Adds xs p q → Adds ys q r → Adds (xs ++ ys) p r
+adds_on a b = record { puts = puts_on a.puts b.puts; same = b.same ∙ a.same; size = b.size ∙ a.size }
+
+-- the same text by another name
+pub adds_as : {xs ys : List ℕ} {p q : Page} → xs ≡ ys → Adds xs p q → Adds ys p q
+adds_as {p = p} {q = q} e a = subst (λ (l : List ℕ). Adds l p q) e a
+
+pub adds_by : {xs ys : List ℕ} {p q : Page} → (Puts xs p.end p.out.now q.end q.out.now → Puts ys p.end p.out.now q.end q.out.now) → Adds xs p q → Adds ys p q
+adds_by f a = record { puts = f a.puts; same = a.same; size = a.size }
 
 -- ---- a line: a word, then numbers
 
@@ -75,28 +96,39 @@ one_more ns i h =
     ∙ numbers_append (take i ns) (get_or ns i 0 ∷ [])
     ∙ ap (λ (l : List ℕ). numbers_of (take i ns) ++ l) (append-nil (32 ∷ decimal_of (get_or ns i 0)))
 
-pub begun : (ns : List ℕ) (from : ℕ) (w : List ℕ) → from ≤ length w → Begun ns from w 0 from w
+-- the word is there
+pub begun : {word : List ℕ} (ns : List ℕ) {p q : Page} → Adds word p q → Begun word ns p 0 q
 unfolding numbers_of
-begun ns from w h = record { text = record { has = placed_none from w; ends = omega arith; room = h }; short = omega arith; upto = omega arith }
+begun {word} ns a = let e = a.puts.ends in record { adds = adds_as (sym (append-nil word)) a; short = omega arith; upto = omega arith }
 
 -- one number more
-pub begun_on : {ns : List ℕ} {from i mid to n : ℕ} {w w' w'' : List ℕ} → Begun ns from w i mid w' → i < length ns → n ≡ get_or ns i 0
-    → Puts (32 ∷ decimal_of n) mid w' to w'' → to ≤ mid + 21 → Begun ns from w (i + 1) to w''
-begun_on {ns} {from} {i} {mid} {to} {n} {w} {w'} {w''} b h e p l =
+pub begun_on : {word ns : List ℕ} {p q r : Page} {i j n : ℕ} → Begun word ns p i q → i < length ns → n ≡ get_or ns i 0 → Adds (32 ∷ decimal_of n) q r → r.end ≤ q.end + 21
+    → j ≡ i + 1 → Begun word ns p j r
+begun_on {word} {ns} {p} {q} {r} {i} {j} {n} b h e a l f =
     let s = b.short in
-    record {
-      text = subst (λ (l : List ℕ). Puts l from w to w'') (ap (λ (x : ℕ). numbers_of (take i ns) ++ (32 ∷ decimal_of x)) e ∙ sym (one_more ns i h)) (puts_on b.text p);
-      short = omega arith;
-      upto = omega arith;
-    }
+    let more : (word ++ numbers_of (take i ns)) ++ (32 ∷ decimal_of n) ≡ word ++ numbers_of (take j ns) =
+    append_assoc word (numbers_of (take i ns)) (32 ∷ decimal_of n)
+    ∙ ap (λ (x : ℕ). word ++ (numbers_of (take i ns) ++ (32 ∷ decimal_of x))) e
+    ∙ ap (λ (l : List ℕ). word ++ l) (sym (one_more ns i h))
+    ∙ ap (λ (k : ℕ). word ++ numbers_of (take k ns)) (sym f) in
+    record { adds = adds_as more (adds_on b.adds a); short = omega arith; upto = omega arith }
 
--- where a line stands that has its word and i numbers
-pub line_room : {word ns : List ℕ} {at from i mid : ℕ} {w w' w'' : List ℕ} → Puts word at w from w' → Begun ns from w' i mid w''
-    → (length w'' ≡ length w) × (mid ≤ at + length word + 21 * i)
-line_room p b = let e = p.ends in let s = b.short in (puts_length b.text ∙ puts_length p, omega arith)
+-- where a line ends that has its word and i numbers
+pub line_room : {word ns : List ℕ} {p q : Page} {i : ℕ} → Begun word ns p i q → (length q.out.now ≡ length p.out.now) × (q.end ≤ p.end + length word + 21 * i)
+line_room b = (b.adds.size, b.short)
 
--- the word before them and the end of the line after them
-pub line_done : {word ns : List ℕ} {at from i mid to : ℕ} {w w' w'' w''' : List ℕ} → Puts word at w from w' → Begun ns from w' i mid w'' → length ns ≤ i
-    → Puts (10 ∷ []) mid w'' to w''' → Puts (line_of word ns) at w to w'''
-line_done {word} {ns} {at} {from} {i} {mid} {to} {w} {w'} {w''} {w'''} p b h q =
-    subst (λ (l : List ℕ). Puts (word ++ numbers_of l ++ (10 ∷ [])) at w to w''') (take_all i ns h) (puts_on (puts_on p b.text) q)
+-- the end of the line after them
+pub line_done : {word ns : List ℕ} {p q r : Page} {i : ℕ} → Begun word ns p i q → length ns ≤ i → Adds (10 ∷ []) q r → Adds (line_of word ns) p r
+line_done {word} {ns} {p} {q} {r} {i} b h a =
+    let e : (word ++ numbers_of (take i ns)) ++ (10 ∷ []) ≡ line_of word ns =
+    ap (λ (l : List ℕ). word ++ numbers_of l ++ (10 ∷ [])) (take_all i ns h) in
+    adds_as e (adds_on b.adds a)
+
+-- the numbers of a line are the few and then the states
+module _ {word : List ℕ} (few states : List ℕ) {p q r : Page} {i : ℕ} where
+  pub few_on : Begun word (few ++ states) p i q → i < length few → Adds (32 ∷ decimal_of (get_or few i 0)) q r → r.end ≤ q.end + 21 → Begun word (few ++ states) p (i + 1) r
+  few_on b h a l = begun_on b (omega (arith, length-append few states)) (sym (get_or-append few states 0 i h)) a l refl
+
+  pub states_on : Begun word (few ++ states) p (length few + i) q → i < length states → Adds (32 ∷ decimal_of (get_or states i 0)) q r → r.end ≤ q.end + 21
+      → Begun word (few ++ states) p (length few + (i + 1)) r
+  states_on b h a l = begun_on b (omega (arith, length-append few states)) (sym (get_or-append-add few states i 0)) a l (omega arith)

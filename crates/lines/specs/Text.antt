@@ -1,15 +1,12 @@
 -- The text that the two programs print, as lists of ASCII codes. docs/RULES.md, "What the programs print": the lines of verdict, and the `refused`
 -- line. Definitions only. Assumes nothing.
-use Rattle.std.specs.Prelude.{cond, List, [], ◌∷◌, ◌++◌, ℕ, zero, suc, ◌+◌, ◌/◌, ◌%◌, ltb, take}
+use Rattle.std.specs.Prelude.{Option, Some, None, Result, Ok, Err, cond, List, [], ◌∷◌, ◌++◌, ℕ, zero, suc, ◌+◌, ◌/◌, ◌%◌, ltb, take}
 use Rattle.io.specs.Digits.{hex_digit_ascii}
 use Rattle.table.specs.Refusals.{number_of, place_of}
 use Rattle.table.specs.declared.refusal.Refusal.{Refusal}
-use Rattle.table.specs.declared.Opened.{Opened}
-use Rattle.table.specs.declared.Opened.TheVariants.{Accepted, Refused as TableRefused}
 use Rattle.quote.specs.declared.Sheet.{Sheet}
 use Rattle.quote.specs.declared.Quoted.{Quoted}
-use Rattle.search.specs.declared.Answer.{Answer}
-use Rattle.search.specs.declared.Answer.TheVariants.{Lasso, Holds, Refused}
+use Rattle.search.specs.declared.Lasso.{Lasso}
 
 -- ---- numbers and lines
 
@@ -72,8 +69,9 @@ abbrev pub size_line : Sheet → List ℕ
 size_line s = line_of size_word (s.slots ∷ s.edges ∷ s.bytes ∷ [])
 
 -- line two: `board` and its letter, or `none`
-abbrev pub board_line : ℕ → List ℕ
-board_line r = board_word ++ cond (ltb r 8) ((65 + r) ∷ []) none_word ++ (10 ∷ [])
+abbrev pub board_line : Option ℕ → List ℕ
+board_line (Some r) = board_word ++ ((65 + r) ∷ []) ++ (10 ∷ [])
+board_line None = board_word ++ none_word ++ (10 ∷ [])
 
 -- line three: `members` of sets 0 to 3
 abbrev pub members_line : List ℕ → List ℕ
@@ -84,21 +82,17 @@ abbrev pub refused_line : Refusal → List ℕ
 refused_line why = line_of refused_word (number_of why ∷ place_of why ∷ [])
 
 -- line four: `lasso` k l, or `holds`, or `refused` number place; line five, only after `lasso`: `run` and the states
-abbrev pub answer_lines : Answer → List ℕ → List ℕ
-answer_lines (Lasso k l) report =
-    line_of lasso_word (k ∷ l ∷ []) ++ line_of run_word (take (suc k) report)
-answer_lines Holds report = line_of holds_word []
-answer_lines (Refused why) report = refused_line why
+abbrev pub answer_lines : Result (Option Lasso) Refusal → List ℕ → List ℕ
+answer_lines (Ok (Some x)) report =
+    line_of lasso_word (x.k ∷ x.l ∷ []) ++ line_of run_word (take (suc x.k) report)
+answer_lines (Ok None) report = line_of holds_word []
+answer_lines (Err why) report = refused_line why
 
 -- lines one to three
 abbrev pub sheet_lines : Sheet → List ℕ
 sheet_lines s = size_line s ++ board_line s.board ++ members_line s.members
 
--- a refused table has only its `refused` line
-abbrev pub verdict_for : Opened → Sheet → Answer → List ℕ → List ℕ
-verdict_for (TableRefused why) s a report = refused_line why
-verdict_for (Accepted t) s a report = sheet_lines s ++ answer_lines a report
-
--- what verdict prints for a table with this quote, this answer of the search and this report
-abbrev pub verdict_of : Quoted → Answer → List ℕ → List ℕ
-verdict_of q a report = verdict_for q.answer q.sheet a report
+-- what verdict prints for a table with this quote, this answer of the search and this report: a refused table has only its `refused` line
+abbrev pub verdict_of : Result Quoted Refusal → Result (Option Lasso) Refusal → List ℕ → List ℕ
+verdict_of (Ok q) a report = sheet_lines q.sheet ++ answer_lines a report
+verdict_of (Err why) a report = refused_line why

@@ -2,12 +2,11 @@
 #![tactic(auto)]
 
 mod lines;
-mod put;
+mod page;
 
 ghost use Rattle.lines.specs.Says.{VerdictSays, TranslateWrites};
 
-use table::Opened;
-use translation::Answer;
+use page::Page;
 
 // What verdict prints for the bytes of a table: its text stands at the start of the output, and the answer is its length. The longest run has 8,192
 // states; each takes at most 21 bytes.
@@ -20,14 +19,15 @@ pub fn verdict(
     ensures { VerdictSays table.now work.old report.old out.old result work.new report.new out.new }
 {
     let answer = search::search(table, work, report);
-    let quoted = quote::quote(table);
-    let opened = quoted.answer;
-    let Opened::Accepted(_) = opened else {
-        return lines::refused_line(out, 0, opening::why(opened));
-    };
-    let sheet = quoted.sheet;
-    let end = lines::sheet_lines(out, sheet);
-    lines::answer_lines(out, end, answer, report)
+    let mut page = Page { out, end: 0 };
+    match quote::quote(table) {
+        Ok(quoted) => {
+            lines::sheet_lines(&mut page, quoted.sheet);
+            lines::answer_lines(&mut page, answer, report);
+        }
+        Err(why) => lines::refused_line(&mut page, why),
+    }
+    page.end
 }
 
 // What translate writes for the bytes of a table: the translated table, or the `refused` line. It stands at the start of the output, and the answer
@@ -36,7 +36,11 @@ pub fn translate(table: &[u8], out: &mut [u8; 65536]) -> usize
     ensures { TranslateWrites table.now out.old result out.new }
 {
     match translation::translate(table, out) {
-        Answer::Written(size) => size,
-        Answer::Refused(why) => lines::refused_line(out, 0, why),
+        Ok(size) => size,
+        Err(why) => {
+            let mut page = Page { out, end: 0 };
+            lines::refused_line(&mut page, why);
+            page.end
+        }
     }
 }

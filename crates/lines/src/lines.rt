@@ -1,70 +1,65 @@
-// The lines of verdict, and the `refused` line. Each function writes from a place on and answers the place after what it wrote.
+// The lines of verdict, and the `refused` line. Each function writes on after what the page has.
 ghost use Rattle.std.specs.Prelude.{◌+◌, ◌≤◌, ◌≡◌, length};
+ghost use Rattle.lines.specs.Puts.{Adds};
+ghost use Rattle.lines.specs.Says.{RowFits, RunFits};
 ghost use Rattle.lines.specs.Text.{board_line, sheet_lines, refused_line, answer_lines};
-ghost use Rattle.lines.specs.Puts.{Puts};
-ghost use Rattle.lines.specs.Says.{RunFits};
 
-use super::put::{put_line, put_text};
+use super::page::Page;
 use quote::Sheet;
-use search::Answer;
+use search::Lasso;
 use table::Refusal;
 
 // `board` and its letter, or `none`.
-fn board_line(out: &mut [u8], at: usize, board: usize) -> usize
-    requires { at + 11 ≤ length out.old }
-    ensures puts { Puts (board_line board) at out.old result out.new }
-    ensures upper_bound { result ≤ at + 11 }
+fn board_line(page: &mut Page, board: Option<usize>)
+    requires row_fits { RowFits board }
+    requires in_bounds { page.old.end + 11 ≤ length page.old.out.now }
+    ensures adds { Adds (board_line board) page.old page.new }
+    ensures upper_bound { page.new.end ≤ page.old.end + 11 }
 {
-    let end = put_text(out, at, b"board ");
-    if board < 8 {
-        put_text(out, end, &[65 + board as u8, b'\n'])
-    } else {
-        put_text(out, end, b"none\n")
+    page.text(b"board ");
+    match board {
+        Some(row) => page.text(&[b'A' + row as u8, b'\n']),
+        None => page.text(b"none\n"),
     }
 }
 
 // `size`, `board` and `members`.
-pub(crate) fn sheet_lines(out: &mut [u8], sheet: Sheet) -> usize
-    requires in_bounds { 175 ≤ length out.old }
+pub(crate) fn sheet_lines(page: &mut Page, sheet: Sheet)
+    requires row_fits { RowFits sheet.board }
     requires members_len { length sheet.members ≡ 4 }
-    ensures puts { Puts (sheet_lines sheet) 0 out.old result out.new }
-    ensures upper_bound { result ≤ 175 }
+    requires in_bounds { page.old.end + 175 ≤ length page.old.out.now }
+    ensures adds { Adds (sheet_lines sheet) page.old page.new }
+    ensures upper_bound { page.new.end ≤ page.old.end + 175 }
 {
-    let members = sheet.members;
-    let end = put_line(
-        out,
-        0,
-        b"size",
-        &[sheet.slots, sheet.edges, sheet.bytes],
-        &[],
-    );
-    let end = board_line(out, end, sheet.board);
-    put_line(out, end, b"members", &members, &[])
+    page.line(b"size", &[sheet.slots, sheet.edges, sheet.bytes], &[]);
+    board_line(page, sheet.board);
+    page.line(b"members", &sheet.members, &[]);
 }
 
 // `refused`, number and place.
-pub(crate) fn refused_line(out: &mut [u8], at: usize, why: Refusal) -> usize
-    requires { at + 50 ≤ length out.old }
-    ensures { Puts (refused_line why) at out.old result out.new }
+pub(crate) fn refused_line(page: &mut Page, why: Refusal)
+    requires { page.old.end + 50 ≤ length page.old.out.now }
+    ensures { Adds (refused_line why) page.old page.new }
 {
-    let number = why.number() as usize;
-    let place = why.place();
-    put_line(out, at, b"refused", &[number, place], &[])
+    page.line(b"refused", &[why.number() as usize, why.place()], &[]);
 }
 
 // `lasso` and `run`, or `holds`, or `refused`.
-pub(crate) fn answer_lines(out: &mut [u8], at: usize, answer: Answer, report: &[u32; 8192]) -> usize
+pub(crate) fn answer_lines(
+    page: &mut Page,
+    answer: Result<Option<Lasso>, Refusal>,
+    report: &[u32; 8192],
+)
     requires run_fits { RunFits answer report.now }
-    requires at_in_bounds { at + 172084 ≤ length out.old }
-    ensures { Puts (answer_lines answer report.now) at out.old result out.new }
+    requires in_bounds { page.old.end + 172084 ≤ length page.old.out.now }
+    ensures { Adds (answer_lines answer report.now) page.old page.new }
 {
     match answer {
-        Answer::Lasso { k, l } => {
-            let states: &[u32] = report;
-            let end = put_line(out, at, b"lasso", &[k, l], &[]);
-            put_line(out, end, b"run", &[], &states[..k + 1])
+        Ok(Some(lasso)) => {
+            page.line(b"lasso", &[lasso.k, lasso.l], &[]);
+            page.line(b"run", &[], &report[..lasso.k + 1]);
         }
-        Answer::Holds => put_text(out, at, b"holds\n"),
-        Answer::Refused(why) => refused_line(out, at, why),
+        Ok(None) => page.text(b"holds\n"),
+        Err(why) => refused_line(page, why),
     }
 }

@@ -2,8 +2,8 @@
 use Rattle.lines.proofs.Laws.{puts_written, puts_not_written}
 use Rattle.lines.proofs.translate.Goals as goal
 
-pub returns-in-Written : goal.returns-in-Written
-returns-in-Written c = puts_written _ _ _ _ _ c.in-Written.is c.translate.ensures
+pub returns-in-Ok : goal.returns-in-Ok
+returns-in-Ok c = puts_written _ _ _ _ _ c.in-Ok.is c.translate.ensures
 
-pub returns-in-Refused : goal.returns-in-Refused
-returns-in-Refused c = puts_not_written _ _ _ _ _ _ _ c.in-Refused.is c.translate.ensures c.refused_line.ensures
+pub returns-in-Err : goal.returns-in-Err
+returns-in-Err c = puts_not_written _ _ _ _ _ _ _ c.in-Err.is c.translate.ensures c.refused_line.ensures.puts

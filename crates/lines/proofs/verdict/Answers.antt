@@ -1,19 +1,17 @@
 -- The table is searched and quoted, and the lines are those of both answers.
-use native.Mathlib.Omega.{arith}
-use Rattle.table.proofs.WellFormed.{why_is}
-use Rattle.lines.proofs.Puts.{puts_on, puts_length}
-use Rattle.lines.proofs.Laws.{run_fits, puts_table_refused, puts_verdict}
+use Rattle.lines.proofs.Puts.{adds_on}
+use Rattle.lines.proofs.Laws.{row_fits, run_fits, puts_table_refused, puts_verdict}
 use Rattle.lines.proofs.verdict.Goals as goal
+use Rattle.lines.proofs.verdict.Goals.{in-Ok, in-Err}
 
-pub returns-in_default : goal.returns-in_default
-returns-in_default c = (_, c.search-answer.ensures, puts_table_refused _ _ _ _ c.quote-quoted.ensures _ (why_is _ _ _ c.in_default.is c.why.ensures) c.refused_line.ensures)
+pub sheet_lines-requires-clause-row_fits : goal.sheet_lines-requires-clause-row_fits
+sheet_lines-requires-clause-row_fits c = row_fits _ _ c.in-Ok.ensures
 
-pub answer_lines-requires : goal.answer_lines-requires
-answer_lines-requires c =
-    record {
-      run_fits = run_fits _ _ _ _ _ _ c.search-answer.ensures;
-      at_in_bounds = omega (arith, c.sheet_lines-end.ensures.upper_bound, puts_length c.sheet_lines-end.ensures.puts, c.sheet_lines-arg-1.given);
-    }
+pub answer_lines-requires-clause-run_fits : goal.answer_lines-requires-clause-run_fits
+answer_lines-requires-clause-run_fits c = run_fits _ _ _ _ _ _ c.search-answer.ensures
 
 pub returns : goal.returns
-returns c = (_, c.search-answer.ensures, puts_verdict _ _ _ _ c.quote-quoted.ensures _ c.in-Accepted.is (puts_on c.sheet_lines-end.ensures.puts c.answer_lines.ensures))
+returns c = elim c.match-quote.branch [
+  | in-Ok w ↦ rw w.page-is (_, c.search-answer.ensures, puts_verdict _ _ _ _ w.in-Ok.ensures (adds_on w.sheet_lines.ensures.adds w.answer_lines.ensures).puts)
+  | in-Err w ↦ rw w.page-is (_, c.search-answer.ensures, puts_table_refused _ _ _ _ w.in-Err.ensures w.refused_line.ensures.puts)
+]
