@@ -1,12 +1,18 @@
 // Tables with some bytes changed, and the refused tables of the calls that take buffers. The places in the bytes are those of docs/RULES.md, "The
 // table file": in table a the row starts stand from 28 on, the targets from 48 on, the marks from 80 on.
+ghost use Rattle.std.specs.Prelude.{◌≡◌};
+ghost use Rattle.cases.specs.Changed.{changed};
+
 use std::io;
 
-// The table, and of each change (at, x) the byte at `at` is x.
-pub fn with<const N: usize>(mut table: [u8; N], changes: &[(usize, u8)]) -> [u8; N] {
+// The table, and of each change (at, x) in turn the byte at `at` is x. A change past the end changes nothing.
+#[tactic(auto, unfolding(crate::specs::Changed::changed))]
+pub fn with<const N: usize>(mut table: [u8; N], changes: &[(usize, u8)]) -> [u8; N]
+    ensures { result ≡ changed table.entry changes.now }
+{
     for &(at, x) in changes {
-        if let Some(byte) = table.get_mut(at) {
-            *byte = x;
+        if at < N {
+            table[at] = x;
         }
     }
     table

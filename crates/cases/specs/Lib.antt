@@ -1,0 +1,3 @@
+-- What the parts that the programs of the cases share do. Assumes nothing.
+pub mod Changed
+pub mod Patterned
