@@ -1,5 +1,5 @@
 -- The words that a buffer has before a call. docs/RULES.md, "Buffers". Assumes nothing.
-use Rattle.std.specs.Prelude.{List, [], ◌∷◌, ℕ, zero, suc, Bool, length, drop, count_by}
+use Rattle.std.specs.Prelude.{List, [], ◌∷◌, ℕ, zero, suc, Bool, drop, count_by}
 use Rattle.std.specs.List.{zip}
 
 -- n words, each a step above the one before it: first, plus first step, plus (plus first step) step and so on

@@ -36,6 +36,7 @@ pub struct Pattern<T> {
 
 impl<T: Word> Pattern<T> {
     // Word i is first + i times step, which wraps.
+    #[tactic(auto, using(crate::proofs::Steps::words_more, crate::proofs::Steps::words_end))]
     pub fn fill(self, words: &mut [T])
         ensures { words.new ≡ patterned T.plus self.first self.step (length words.old) }
     {
@@ -48,6 +49,7 @@ impl<T: Word> Pattern<T> {
     }
 
     // How many of the words from index `from` on are as the pattern has them.
+    #[tactic(auto, using(crate::proofs::Steps::kept_one, crate::proofs::Steps::kept_none, crate::proofs::Steps::kept_end))]
     pub fn kept(self, words: &[T], from: usize) -> usize
         ensures { result ≡ kept_from T.eq (patterned T.plus self.first self.step (length words.now)) words.now from }
     {
