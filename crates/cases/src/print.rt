@@ -1,4 +1,7 @@
 // Parts of a case's line.
+ghost use Rattle.std.specs.Prelude.{Some};
+ghost use Rattle.cases.specs.Printed.{refused_text, spaced};
+
 use std::fmt;
 use table::Refusal;
 
@@ -7,6 +10,9 @@ use table::Refusal;
 pub struct Refused(pub Refusal);
 
 impl fmt::Display for Refused {
+    ghost output = { λ refused. Some (refused_text refused.0) };
+
+    #[tactic(auto, unfolding(crate::specs::Printed::refused_text))]
     fn fmt<W: fmt::Write>(&self, f: &mut fmt::Formatter<W>) -> fmt::Result {
         write!(f, "refused {} {}", self.0.number(), self.0.place())
     }
@@ -17,6 +23,9 @@ impl fmt::Display for Refused {
 pub struct Numbers<'a, T>(pub &'a [T]);
 
 impl<T: fmt::Display> fmt::Display for Numbers<'_, T> {
+    ghost output = { λ numbers. spaced T.output numbers.0.now };
+
+    #[tactic(auto, using(crate::proofs::Texts::spaced_none, crate::proofs::Texts::spaced_more, crate::proofs::Texts::written_more))]
     fn fmt<W: fmt::Write>(&self, f: &mut fmt::Formatter<W>) -> fmt::Result {
         for x in self.0 {
             write!(f, " {x}")?;

@@ -158,7 +158,9 @@ fn main(rt: HostRuntime) -> io::Result<()> {
     over_one_word(&rt)?;
     // With as many words as tables a and b need; with fewer, and with none.
     for (w, r) in [(80, 40), (79, 39), (0, 0)] {
-        cases::each_refused(|name, table| case(&rt, name, table, w, r, RISING, false))?;
+        for &(name, table) in cases::REFUSED {
+            case(&rt, name, table, w, r, RISING, false)?;
+        }
     }
     each(&rt, SLIPS, false)?;
     ring(&rt)

@@ -1,0 +1,3 @@
+-- What the proofs of the crate share.
+pub mod Steps
+pub mod Texts
