@@ -1,5 +1,5 @@
 -- The table is opened and taken, the code goes down lines 9 and 10, and then it finds. The laws are those of proofs/Laws.antt.
-use Rattle.std.proofs.Common.{sym, ◌∙◌, arith}
+use Rattle.std.proofs.Common.{sym, arith}
 use Rattle.std.proofs.lemmas.Result.{err_from_is_err_and}
 use Rattle.search.proofs.Laws.{table_refused, counts_bound, slots_small, short_workspace, short_report, find_asks, finds}
 use Rattle.search.proofs.search.Goals as goal
