@@ -68,9 +68,8 @@ loop-i-preserved c =
           rw w.queue-is (record { row = rw c.meet.ensures.same.slots (row_goes_on c.loop-i.invariant.row d); same = queue_trans c.loop-i.invariant.same c.meet.ensures.same })
       | then-r-n w ↦
           let says = rw c.meet.ensures.same.slots at w.meet-then-r-n.ensures.says in
-          let d =
-              done_unsaved k c.step-saving.ensures c.slot-y.ensures c.is_bad.ensures c.if-is_bad.false c.meet.ensures.says w.step-plain.ensures w.slot-z.ensures w.if-r-n.true
-              says in
+          let m = c.meet.ensures.says in
+          let d = done_unsaved k c.step-saving.ensures c.slot-y.ensures c.is_bad.ensures c.if-is_bad.false m w.step-plain.ensures w.slot-z.ensures w.if-r-n.true says in
           rw w.queue-is (record {
             row = rw (w.meet-then-r-n.ensures.same.slots, c.meet.ensures.same.slots) (row_goes_on c.loop-i.invariant.row d);
             same = queue_trans c.loop-i.invariant.same (queue_trans c.meet.ensures.same w.meet-then-r-n.ensures.same);
