@@ -1,6 +1,7 @@
 -- Laws of specs/Find.antt. Assumes nothing.
-use Rattle.std.specs.Prelude.{◌≡◌, refl, List, ◌++◌, ℕ, ◌-◌, ◌*◌, ◌≤◌, ◌<◌, length, drop, Some, None}
+use Rattle.std.specs.Prelude.{◌≡◌, refl, List, ◌++◌, ℕ, ◌-◌, ◌*◌, ◌≤◌, ◌<◌, length, drop, Option, Some, None}
 use Rattle.std.proofs.Common.{sym, ap, ◌∙◌, arith}
+use Rattle.order.specs.Graph.{Safe}
 use Rattle.order.proofs.Turn.{search_stops}
 use Rattle.order.specs.Word.{Word}
 use Rattle.recorder.specs.Flag.{Flag, live_flag, LassoBy}
@@ -15,15 +16,39 @@ use Rattle.table.specs.declared.Table.{Table}
 use Rattle.table.specs.Recording.{slots_of, graph_of}
 use Rattle.table.proofs.Recording.{block_states, block_sets}
 use Rattle.writing.specs.Cleared.{cleared}
-use Rattle.writing.proofs.Cleared.{cleared_past, cleared_again}
+use Rattle.writing.proofs.Cleared.{length-cleared, cleared_at, cleared_past, cleared_again}
 use Rattle.search.specs.Climb.{Climbs, path_by, label_of}
 use Rattle.search.proofs.ClimbLaws.{kept_climbs, slot_path, path_to}
 use Rattle.search.specs.Report.{halves, odds}
 use Rattle.search.proofs.Report.{Reports, lasso_reported}
-use Rattle.search.specs.Scan.{Stopped, ScanSays}
-use Rattle.search.specs.Meet.{SameRest}
-use Rattle.search.specs.Starts.{StartsSay}
+use Rattle.search.specs.Scan.{ScanAsks, Stopped, ScanSays}
+use Rattle.search.specs.Searched.{AnswerSays}
+use Rattle.search.specs.Starts.{StartsAsk, StartsSay}
 use Rattle.search.specs.Find.{FindAsks, FindSays}
+
+-- the starts can be queued once the origins are cleared
+pub starts_asked : {b : List ℕ} {t : Table} {S : ℕ} {work report : List ℕ} (v : List ℕ) → FindAsks b t S work report → v ≡ cleared S work → StartsAsk b t S v
+starts_asked {S} {work} v a e = rw e (record {
+  formed = a.formed;
+  laid = a.laid;
+  slots_are = a.slots_are;
+  room = let l = a.work_room in omega (arith, length-cleared S work (omega arith));
+  fresh = λ x h. cleared_at S work x h;
+})
+
+-- and then scanned
+pub scan_asked : {F : Flag} {b : List ℕ} {t : Table} {S : ℕ} {v : List ℕ} {r : ℕ} {u : List ℕ} → StartsAsk b t S v → StartsSay F b S v r u
+    → ScanAsks F b t S u r
+scan_asked a s = record { formed = a.formed; laid = a.laid; slots_are = a.slots_are; kept = s.kept; between = s.between }
+
+-- the words past the first 2S stay all the while
+pub rest_stays : {F : Flag} {b : List ℕ} {S : ℕ} (work v u w : List ℕ) {r : ℕ} {seen : Option ℕ} → v ≡ cleared S work → StartsSay F b S v r u
+    → ScanSays F b S u seen w → drop (2 * S) w ≡ drop (2 * S) work
+rest_stays {S} work v u w e s k = k.same.rest ∙ s.same.rest ∙ ap (drop (2 * S)) e ∙ cleared_past S (2 * S) work (omega arith)
+
+-- the same under other names for S, what was seen, and the words
+pub seen_as : {F : Flag} {b : List ℕ} {S S' : ℕ} {w w' v : List ℕ} {r r' : Option ℕ} → S ≡ S' → r ≡ r' → w' ≡ v → ScanSays F b S w r w' → ScanSays F b S' w r' v
+seen_as p e q k = rw (← p, ← e, ← q) k
 
 -- the origins of a scan that stopped lead to a start
 pub stopped_climbs : {F : Flag} {b : List ℕ} {S : ℕ} {w : List ℕ} {head y : ℕ} → Stopped F b S w head y → Climbs w S head
@@ -49,54 +74,60 @@ stopped_tells F b n m S w head y f en em s =
     let p = slot_path F B n m S w head (block_states b ∙ sym en) (block_sets b ∙ sym em) in
     record { ss = ss; l = l; least = least; reports = reports_as p (lasso_reported ss l _ _ least.is.loop.here e) }
 
--- ---- along the code of `find`, by the rules' flag: the origins are cleared, which gives v
-module _ {b : List ℕ} {t : Table} {S : ℕ} {work report : List ℕ} (a : FindAsks b t S work report) {v : List ℕ} (e : v ≡ cleared S work) where
-  module _ {queued : ℕ} {u : List ℕ} (s : StartsSay live_flag b S v queued u) {S' : ℕ} (same : S' ≡ S) where
-    -- What is cleared after the scan is what came, cleared: the words past the first 2S stay all the while.
-    clears : {w z : List ℕ} → SameRest S' u w → z ≡ cleared (2 * S) w → z ≡ cleared (2 * slots_of b) work
-    clears {w} k d =
-        let rest : drop (2 * S) w ≡ drop (2 * S) work = (rw same at k.rest) ∙ s.same.rest ∙ ap (drop (2 * S)) e ∙ cleared_past S (2 * S) work (omega arith) in
-        d ∙ cleared_again (2 * S) work w rest ∙ rw a.slots_are
+-- ---- the answers, by the rules' flag
 
-    -- ---- no bad slot was met
-    pub says_holds : {w w' z : List ℕ} → ScanSays live_flag b S' u None w → z ≡ cleared (2 * S) w' → w' ≡ w → FindSays b work report None z report
-    says_holds k d back = (((least_of_block (block_of b) (sound b a.formed)).none.0 k.seen, refl), clears k.same (rw back at d))
+pub says_lasso : {b : List ℕ} {path : Word} {len u : ℕ} (report report' : List ℕ) → Told live_flag b path → len ≡ length path → u ≡ odds path
+    → report' ≡ halves path ++ drop len report → AnswerSays (block_of b) report (Some (record { k = len - 1; l = u - 1 })) report'
+says_lasso {b} {path} {len} {u} report report' t d e r =
+    let q : u - 1 ≡ t.l = omega (arith, t.reports.place) in (
+      t.ss,
+      omega (arith, t.reports.size, t.least.is.loop.here),
+      rw q (least_live (block_of b) t.ss t.l t.least),
+      r ∙ ap (λ (x : List ℕ). x ++ drop len report) t.reports.states ∙ ap (λ (k : ℕ). t.ss ++ drop k report) (d ∙ t.reports.size),
+    )
 
-    -- ---- a bad slot that head leads to, in the words w of the queue, which are those that the workspace has afterwards
-    module _ {w : List ℕ} {head : ℕ} (k : ScanSays live_flag b S' u (Some head) w) {w' : List ℕ} where
-      stopped : w' ≡ w → Stopped live_flag b S w' head k.seen.0
-      stopped back = rw (back, ← same) k.seen.1
+pub says_holds : {b : List ℕ} (report : List ℕ) → WellFormed b → Safe (graph_of live_flag b) → AnswerSays (block_of b) report None report
+says_holds {b} report f s = ((least_of_block (block_of b) (sound b f)).none.0 s, refl)
 
-      -- the path to head can be climbed
-      pub path_climbs : w' ≡ w → Climbs w' S head
-      path_climbs back = stopped_climbs (stopped back)
+-- what was cleared at the end is what came, cleared
+pub clears : {S S' : ℕ} (w v : List ℕ) {u : List ℕ} → S ≡ S' → drop (2 * S) v ≡ drop (2 * S) w → u ≡ cleared (2 * S) v → u ≡ cleared (2 * S') w
+clears {S} w v p r e = e ∙ cleared_again (2 * S) w v r ∙ rw p
 
-      told : w' ≡ w → Told live_flag b (path_by (label_of t.states t.sets) S w' head)
-      told back = stopped_tells live_flag b t.states t.sets S w' head _ a.formed a.laid.states_are a.laid.sets_are (stopped back)
+-- ---- along the code of `find`: the origins are cleared, which gives v, and the starts are queued. The words w of the queue are those w' that the
+-- workspace has after the scan.
+module _ {b : List ℕ} {t : Table} {S : ℕ} {work report : List ℕ} (a : FindAsks b t S work report) {v : List ℕ} (e : v ≡ cleared S work)
+    {queued : ℕ} {u : List ℕ} (s : StartsSay live_flag b S v queued u) {S' : ℕ} (same : S' ≡ S) where
+  clears_all : {x : Option ℕ} {w z : List ℕ} → ScanSays live_flag b S u x w → z ≡ cleared (2 * S) w → z ≡ cleared (2 * slots_of b) work
+  clears_all {w} k d = clears work w a.slots_are (rest_stays work v u w e s k) d
 
-      -- it has len records
-      module _ {len : ℕ} (is : (label : ℕ → ℕ) → len ≡ length (path_by label S w' head)) where
-        pub len_fits : w' ≡ w → (len ≡ length (path_by (label_of t.states t.sets) S w' head)) × (len ≤ length report)
-        len_fits back = (is _, omega (arith, is (label_of t.states t.sets), path_to (label_of t.states t.sets) S w' head (path_climbs back), a.report_room))
+  -- ---- no bad slot was met
+  pub find_holds : {w w' z : List ℕ} → ScanSays live_flag b S' u None w → z ≡ cleared (2 * S) w' → w' ≡ w → FindSays b work report None z report
+  find_holds k d back = let k' = seen_as same refl (sym back) k in (says_holds report a.formed k'.seen, clears_all k' d)
 
-        pub len_some : w' ≡ w → 0 < len
-        len_some back = let t' = told back in omega (arith, is (label_of t.states t.sets), t'.reports.size, t'.least.is.loop.here)
+  -- ---- head leads to a bad slot
+  module _ {w : List ℕ} {head : ℕ} (k : ScanSays live_flag b S' u (Some head) w) {w' : List ℕ} where
+    seen : w' ≡ w → ScanSays live_flag b S u (Some head) w'
+    seen back = seen_as same refl (sym back) k
 
-        module _ {n : ℕ} (d : n ≡ odds (path_by (label_of t.states t.sets) S w' head)) where
-          pub odds_some : w' ≡ w → 0 < n
-          odds_some back = omega (arith, (told back).reports.place)
+    -- the path to head can be climbed
+    pub path_climbs : w' ≡ w → Climbs w' S head
+    path_climbs back = stopped_climbs (seen back).seen.1
 
-          pub says_lasso : {report' z : List ℕ} → report' ≡ halves (path_by (label_of t.states t.sets) S w' head) ++ drop len report → z ≡ cleared (2 * S) w'
-              → w' ≡ w → FindSays b work report (Some (record { k = len - 1; l = n - 1 })) z report'
-          says_lasso r c back =
-              let t' = told back in
-              let size = is (label_of t.states t.sets) ∙ t'.reports.size in
-              let place : n - 1 ≡ t'.l = omega (arith, t'.reports.place) in (
-                (
-                  t'.ss,
-                  omega (arith, size, t'.least.is.loop.here),
-                  rw place (least_live (block_of b) t'.ss t'.l t'.least),
-                  r ∙ ap (λ (x : List ℕ). x ++ drop len report) t'.reports.states ∙ ap (λ (k : ℕ). t'.ss ++ drop k report) size,
-                ),
-                clears k.same (rw back at c),
-              )
+    told : w' ≡ w → Told live_flag b (path_by (label_of t.states t.sets) S w' head)
+    told back = stopped_tells live_flag b t.states t.sets S w' head _ a.formed a.laid.states_are a.laid.sets_are (seen back).seen.1
+
+    -- it has len records
+    module _ {len : ℕ} (is : (label : ℕ → ℕ) → len ≡ length (path_by label S w' head)) where
+      pub len_fits : w' ≡ w → (len ≡ length (path_by (label_of t.states t.sets) S w' head)) × (len ≤ length report)
+      len_fits back = (is _, omega (arith, is (label_of t.states t.sets), path_to (label_of t.states t.sets) S w' head (path_climbs back), a.report_room))
+
+      pub len_some : w' ≡ w → 0 < len
+      len_some back = let t' = told back in omega (arith, is (label_of t.states t.sets), t'.reports.size, t'.least.is.loop.here)
+
+      module _ {n : ℕ} (d : n ≡ odds (path_by (label_of t.states t.sets) S w' head)) where
+        pub odds_some : w' ≡ w → 0 < n
+        odds_some back = omega (arith, (told back).reports.place)
+
+        pub find_lasso : {report' z : List ℕ} → report' ≡ halves (path_by (label_of t.states t.sets) S w' head) ++ drop len report → z ≡ cleared (2 * S) w'
+            → w' ≡ w → FindSays b work report (Some (record { k = len - 1; l = n - 1 })) z report'
+        find_lasso r c back = (says_lasso report _ (told back) (is _) d r, clears_all (seen back) c)

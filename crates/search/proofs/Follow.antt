@@ -1,7 +1,8 @@
 -- One target of a row: `Turned` says where the turn of head stands at index i of its row, and the laws say what meeting the slots along target i
 -- asks and gives. Over any flag. Assumes nothing.
-use Rattle.std.specs.Prelude.{◌≡◌, refl, true, false, List, ℕ, suc, ◌+◌, ◌≤◌, ◌<◌}
-use Rattle.std.proofs.Common.{sym, ap, ◌∙◌, arith}
+use Rattle.std.specs.Prelude.{◌≡◌, refl, Bool, true, false, List, ℕ, suc, ◌+◌, ◌≤◌, ◌<◌, eqb}
+use Rattle.std.proofs.Common.{sym, ap, ◌∙◌, arith, eqb-true}
+use Rattle.std.proofs.lemmas.Bool.{eqb-false}
 use Rattle.order.specs.Turn.{Between}
 use Rattle.recorder.specs.Flag.{Flag}
 use Rattle.recorder.specs.Recorder.{step_of, bad_of}
@@ -15,7 +16,7 @@ use Rattle.table.proofs.Sound.{sound}
 use Rattle.search.specs.Workspace.{slot_at, queue_of, Kept}
 use Rattle.search.proofs.Workspace.{kept_le}
 use Rattle.search.specs.Meet.{MeetAsks, MeetSays}
-use Rattle.search.proofs.MeetLaws.{meets, meet_turns}
+use Rattle.search.proofs.MeetLaws.{MeetIfSays, Met, meets, meets_if, met_trans, meet_turns}
 use Rattle.table.proofs.Row.{row_some, row_edge}
 use Rattle.table.specs.Recording.{slots_of, graph_of, next_of, state_of, from_of, to_of}
 use Rattle.table.proofs.Recording.{block_states, Unsaved, slots_few, state_in, next_in}
@@ -111,34 +112,30 @@ module _ (F : Flag) (b : List ℕ) (f : WellFormed b) (w : List ℕ) (head tail 
       first_dealt : Upto F b (queue_of (slots_of b) w') head r (suc ((graph_of F b).label (next_of F b x (target b i) true)))
       first_dealt = meet_turns (graph_of F b) apart (next_of F b x (target b i) true) r w' first_asks m first_next first_edge good
 
-      -- with a state saved, target i is done
-      pub turned_on_saved : ¬ Unsaved b x → Turned F b w' head r x (i + 1)
-      turned_on_saved h = record {
-        kept = (meets first_asks m).kept;
-        slot_is = slot_stays;
-        from = omega (arith, t.from);
-        to = omega arith;
-        upto = row_done_saved F b f (queue_of (slots_of b) w') head r x slot_stays head_state i t.from g h first_dealt;
-      }
+      -- the other slot is met too, where nothing is saved
+      both_dealt : (u : Bool) → eqb (at (block_of b) x).t (states_of b) ≡ u → (r' : ℕ) (w'' : List ℕ)
+          → MeetIfSays u (slots_of b) w' r (next_of F b x (target b i) false) (head + 2) r' w'' → Upto F b (queue_of (slots_of b) w'') head r' (floor_at b (from_of b x) (i + 1))
+      both_dealt true e r' w'' m' =
+          let u : Unsaved b x = eqb-true _ _ e in
+          let t₁ = row_other F b f (queue_of (slots_of b) w') head r x slot_stays head_state i t.from g u first_dealt in
+          let d : (graph_of F b).Edge (slot_at (slots_of b) w' head) (next_of F b x (target b i) false) = rw slot_stays (target b i, false, edge_there, refl) in
+          let t₂ = meet_turns (graph_of F b) apart (next_of F b x (target b i) false) r' w'' other_asks (m'.is_wanted refl) t₁ d (plain_good F b f x (target b i) edge_there u) in
+          row_done F b f (queue_of (slots_of b) w'') head r' x ((meets other_asks (m'.is_wanted refl)).stays head first_dealt.next ∙ slot_stays) head_state i t.from g u t₂
+      both_dealt false e r' w'' m' =
+          let (p, q) = m'.is_not refl in
+          rw (p, q) (row_done_saved F b f (queue_of (slots_of b) w') head r x slot_stays head_state i t.from g (eqb-false _ _ e) first_dealt)
 
-      -- with nothing saved, the other slot is met too, and then it is
-      module _ (u : Unsaved b x) (r' : ℕ) (w'' : List ℕ) (m' : MeetSays (slots_of b) w' r (next_of F b x (target b i) false) (head + 2) r' w'') where
-        other_stays : slot_at (slots_of b) w'' head ≡ x
-        other_stays = (meets other_asks m').stays head first_dealt.next ∙ slot_stays
-
-        other_edge : (graph_of F b).Edge (slot_at (slots_of b) w' head) (next_of F b x (target b i) false)
-        other_edge = rw slot_stays (target b i, false, edge_there, refl)
-
-        other_dealt : Upto F b (queue_of (slots_of b) w'') head r' (suc ((graph_of F b).label (next_of F b x (target b i) false)))
-        other_dealt =
-            let next = row_other F b f (queue_of (slots_of b) w') head r x slot_stays head_state i t.from g u first_dealt in
-            meet_turns (graph_of F b) apart (next_of F b x (target b i) false) r' w'' other_asks m' next other_edge (plain_good F b f x (target b i) edge_there u)
-
-        pub turned_on : Turned F b w'' head r' x (i + 1)
-        turned_on = record {
-          kept = (meets other_asks m').kept;
-          slot_is = other_stays;
-          from = omega (arith, t.from);
-          to = omega arith;
-          upto = row_done F b f (queue_of (slots_of b) w'') head r' x other_stays head_state i t.from g u other_dealt;
-        }
+      -- target i is done
+      pub turned_on : (r' : ℕ) (w'' : List ℕ) → MeetIfSays (eqb (at (block_of b) x).t (states_of b)) (slots_of b) w' r (next_of F b x (target b i) false) (head + 2) r' w''
+          → Turned F b w'' head r' x (i + 1) × Met (slots_of b) w tail r' w''
+      turned_on r' w'' m' =
+          let k = met_trans (meets first_asks m) (meets_if other_asks m') in (
+            record {
+              kept = k.kept;
+              slot_is = k.stays head t.upto.next ∙ t.slot_is;
+              from = omega (arith, t.from);
+              to = omega arith;
+              upto = both_dealt _ refl r' w'' m';
+            },
+            k,
+          )

@@ -41,6 +41,17 @@ module _ (b work report : List ℕ) where
     unfolding refusal_of search_lines
     lines_are p q = rw o (ap₂ (λ (u v : Bool). first_given (given u ShortWorkspace ∷ given v ShortReport ∷ [])) p q)
 
+    pub short_workspace : length work < 2 * slots_of b → SearchSays b work report (Err ShortWorkspace) work report
+    short_workspace h = refused_says ShortWorkspace (lines_are (lt-ltb _ _ h) refl)
+
+    pub short_report : 2 * slots_of b ≤ length work → length report < slots_of b → SearchSays b work report (Err ShortReport) work report
+    short_report g h = refused_says ShortReport (lines_are (le-ltb _ _ g) (lt-ltb _ _ h))
+
+    pub finds : 2 * slots_of b ≤ length work → slots_of b ≤ length report → (x : Option Lasso) (work' report' : List ℕ) → FindSays b work report x work' report'
+        → SearchSays b work report (Ok x) work' report'
+    unfolding SearchSays
+    finds g h x work' report' (s, e) = rw (lines_are (le-ltb _ _ g) (le-ltb _ _ h)) (x, refl, s, e)
+
     -- ---- along the code, which counts the slots of the table
     pub counts_bound : (t.states ≤ 64) × (t.sets ≤ 8)
     counts_bound = let l = laid _ _ o in (l.states_to, omega (arith, l.sets_to))
@@ -52,20 +63,19 @@ module _ (b work report : List ℕ) where
       pub slots_small : S < 4294967295
       slots_small = omega (arith, slots_are, slots_few b (well_formed _ _ o))
 
-      pub short_workspace : length work < 2 * S → SearchSays b work report (Err ShortWorkspace) work report
-      short_workspace h = refused_says ShortWorkspace (lines_are (lt-ltb _ _ (omega (arith, slots_are))) refl)
+      pub work_refused : length work < 2 * S → SearchSays b work report (Err ShortWorkspace) work report
+      work_refused h = short_workspace (rw slots_are at h)
 
       module _ (g : 2 * S ≤ length work) where
-        pub short_report : length report < S → SearchSays b work report (Err ShortReport) work report
-        short_report h = refused_says ShortReport (lines_are (le-ltb _ _ (omega (arith, slots_are))) (lt-ltb _ _ (omega (arith, slots_are))))
+        pub report_refused : length report < S → SearchSays b work report (Err ShortReport) work report
+        report_refused h = short_report (rw slots_are at g) (rw slots_are at h)
 
         module _ (h : S ≤ length report) where
           pub find_asks : FindAsks b t S work report
           find_asks = record { formed = well_formed _ _ o; laid = laid _ _ o; slots_are = slots_are; work_room = g; report_room = h }
 
-          pub finds : (x : Option Lasso) (work' report' : List ℕ) → FindSays b work report x work' report' → SearchSays b work report (Ok x) work' report'
-          unfolding SearchSays
-          finds x work' report' (s, e) = rw (lines_are (le-ltb _ _ (omega (arith, slots_are))) (le-ltb _ _ (omega (arith, slots_are)))) (x, refl, s, e)
+          pub found : (x : Option Lasso) (work' report' : List ℕ) → FindSays b work report x work' report' → SearchSays b work report (Ok x) work' report'
+          found = finds (rw slots_are at g) (rw slots_are at h)
 
 -- ---- its lines stand in the list's order, after the table's, and the first that is given is the refusal
 

@@ -23,7 +23,7 @@ use Rattle.table.proofs.Recording.{start_slot, start_below, made_range, made_slo
 use Rattle.search.specs.Workspace.{origin_at, slot_at, queue_of, Kept, meeting}
 use Rattle.search.proofs.Workspace.{kept_none, meeting_agrees, meeting_node, meeting_origin, meeting_keeps}
 use Rattle.search.specs.Meet.{MeetAsks, MeetSays, SameRest}
-use Rattle.search.proofs.MeetLaws.{asks_as, says_as, rest_same, rest_trans, meets}
+use Rattle.search.proofs.MeetLaws.{MeetIfSays, where_wanted, where_not, asks_as, if_says_as, rest_same, rest_trans, meets_if}
 use Rattle.search.specs.Starts.{StartsAsk, StartsSay}
 
 -- The starts below state s are queued, and nothing else.
@@ -79,14 +79,14 @@ module _ (F : Flag) (b : List ℕ) (f : WellFormed b) (w : List ℕ) (tail s : �
   start_asks h = record { kept = g.kept; slot_in = start_below F b s h; few = slots_few b f; origin_from = omega arith; origin_to = omega arith }
 
   -- state s is no start: nothing changes
-  pub starting_passes : (block_of b).start s ≡ false → Starting F b w tail (s + 1)
-  starting_passes no_start = rw (add-one s) (record {
+  passes : (block_of b).start s ≡ false → Starting F b w tail (suc s)
+  passes no_start = record {
     kept = g.kept;
     entries = g.entries;
     origins = g.origins;
     below = λ i l. omega (arith, g.below i l);
     dealt = λ s' l h. dealt s' h l (dec_lt s' s);
-  })
+  }
     where
       dealt : (s' : ℕ) → (block_of b).start s' ≡ true → s' < suc s → Dec (s' < s) → Queued (queue_of (slots_of b) w) tail (start_slot F b s') 0
       dealt s' h l (yes p) = g.dealt s' p h
@@ -155,9 +155,15 @@ module _ (F : Flag) (b : List ℕ) (f : WellFormed b) (w : List ℕ) (tail s : �
             let d : s ≡ s' = omega arith in
             record { place = tail; place_lt = omega arith; is_node = node ∙ ap (start_slot F b) d; origin_le = omega (arith, origin) }
 
-    -- the slot of its start is met: state s is dealt with
-    pub starting_on : (r : ℕ) (w' : List ℕ) → MeetSays S w tail x 1 r w' → Starting F b w' r (s + 1)
-    starting_on r w' m = let (p, q) = m.is_new new in rw (add-one s, p, q, add-one tail) queues
+  -- state s is dealt with
+  pub starting_on : (r : ℕ) (w' : List ℕ) → s < states_of b → MeetIfSays ((block_of b).start s) (slots_of b) w tail (start_slot F b s) 1 r w' → Starting F b w' r (s + 1)
+  starting_on r w' s_in m = rw (add-one s) (go ((block_of b).start s) refl)
+    where
+      go : (u : Bool) → (block_of b).start s ≡ u → Starting F b w' r (suc s)
+      go true e =
+          let (p, q) = (m.is_wanted e).is_new (new e s_in) in
+          rw (p, q, add-one tail) (queues e s_in)
+      go false e = let (p, q) = m.is_not e in rw (p, q) (passes e)
 
 -- ---- along the code
 
@@ -177,32 +183,34 @@ module _ {b : List ℕ} {t : Table} {S : ℕ} {w₀ : List ℕ} (a : StartsAsk b
         let e : s ≡ states_of b = omega (arith, a.laid.states_are) in
         rw a.slots_are (record { kept = g.starting.kept; same = g.same; between = starting_ends live_flag b a.formed _ _ _ g.starting e })
 
-    -- state s is no start
-    pub queueing_passes : {u : Bool} → u ≡ (block_of b).start s → u ≡ false → Queueing b w₀ w tail (s + 1)
-    queueing_passes is e = record { starting = starting_passes live_flag b a.formed _ _ _ g.starting (sym is ∙ e); same = g.same }
-
-    -- it is one, its record is r, and r has the slot x
-    module _ (h : s < t.states) {r : Record} (says : StartSays s t.states r) where
+    module _ (h : s < t.states) where
       s_in : s < states_of b
       s_in = omega (arith, a.laid.states_are)
 
-      r_is : r ≡ start_of live_flag (block_of b) s
-      r_is = says (block_of b) (block_states b ∙ sym a.laid.states_are)
+      asks : MeetAsks (slots_of b) w tail (start_slot live_flag b s) 1
+      asks = start_asks live_flag b a.formed _ _ _ g.starting s_in
 
-      pub record_fits : (t.states ≤ 64) × (t.sets ≤ 8) × InRange t.states t.sets r
-      record_fits = made_range live_flag _ _ a.laid _ _ r_is h
+      queued_on : {tail' : ℕ} {w' : List ℕ} → MeetIfSays ((block_of b).start s) (slots_of b) w tail (start_slot live_flag b s) 1 tail' w' → Queueing b w₀ w' tail' (s + 1)
+      queued_on m = record { starting = starting_on live_flag b a.formed _ _ _ g.starting _ _ s_in m; same = rest_trans g.same (meets_if asks m).same }
 
-      module _ {x : ℕ} (d : x ≡ slot_of t.states t.sets r) where
-        slot_is : x ≡ start_slot live_flag b s
-        slot_is = made_slot live_flag _ _ a.laid _ _ r_is _ d
+      -- state s is no start
+      pub queueing_passes : {u : Bool} → u ≡ (block_of b).start s → u ≡ false → Queueing b w₀ w tail (s + 1)
+      queueing_passes is e = queued_on (where_not (sym is ∙ e))
 
-        pub slot_fits : MeetAsks S w tail x 1
-        slot_fits = asks_as a.slots_are slot_is (start_asks live_flag b a.formed _ _ _ g.starting s_in)
+      -- it is one, its record is r, and r has the slot x
+      module _ {r : Record} (says : StartSays s t.states r) where
+        r_is : r ≡ start_of live_flag (block_of b) s
+        r_is = says (block_of b) (block_states b ∙ sym a.laid.states_are)
 
-        pub queueing_on : {u : Bool} {tail' : ℕ} {w' : List ℕ} → u ≡ (block_of b).start s → u ≡ true → MeetSays S w tail x 1 tail' w' → Queueing b w₀ w' tail' (s + 1)
-        queueing_on is e m =
-            let m' = says_as a.slots_are slot_is m in
-            record {
-              starting = starting_on live_flag b a.formed _ _ _ g.starting (sym is ∙ e) s_in _ _ m';
-              same = rest_trans g.same (meets (start_asks live_flag b a.formed _ _ _ g.starting s_in) m').same;
-            }
+        pub record_fits : (t.states ≤ 64) × (t.sets ≤ 8) × InRange t.states t.sets r
+        record_fits = made_range live_flag _ _ a.laid _ _ r_is h
+
+        module _ {x : ℕ} (d : x ≡ slot_of t.states t.sets r) where
+          slot_is : x ≡ start_slot live_flag b s
+          slot_is = made_slot live_flag _ _ a.laid _ _ r_is _ d
+
+          pub slot_fits : MeetAsks S w tail x 1
+          slot_fits = asks_as a.slots_are slot_is asks
+
+          pub queueing_on : {u : Bool} {tail' : ℕ} {w' : List ℕ} → u ≡ (block_of b).start s → u ≡ true → MeetSays S w tail x 1 tail' w' → Queueing b w₀ w' tail' (s + 1)
+          queueing_on is e m = queued_on (if_says_as is a.slots_are slot_is (where_wanted e m))

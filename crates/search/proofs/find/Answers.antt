@@ -1,10 +1,10 @@
 -- The workspace is cleared, the starts are queued and scanned, and what the scan saw is the answer. The laws are those of proofs/FindLaws.antt.
 use Rattle.std.proofs.Common.{rules}
-use Rattle.search.proofs.FindLaws.{says_holds, path_climbs, len_fits, len_some, odds_some, says_lasso}
+use Rattle.search.proofs.FindLaws.{find_holds, path_climbs, len_fits, len_some, odds_some, find_lasso}
 use Rattle.search.proofs.find.Goals as goal
 
 pub returns-in_default : goal.returns-in_default
-returns-in_default c = says_holds c.requires c.clear.ensures c.queue_starts-queue.ensures.says c.queue_starts-queue.ensures.slots c.in_default.ensures.says c.clear-in_default.ensures (search rules)
+returns-in_default c = find_holds c.requires c.clear.ensures c.queue_starts-queue.ensures.says c.queue_starts-queue.ensures.slots c.in_default.ensures.says c.clear-in_default.ensures (search rules)
 
 pub path_length-len-requires : goal.path_length-len-requires
 path_length-len-requires c = path_climbs c.requires c.clear.ensures c.queue_starts-queue.ensures.says c.queue_starts-queue.ensures.slots c.in-Some.ensures.says (search rules)
@@ -23,5 +23,5 @@ overflow_sub-result-2 c = odds_some c.requires c.clear.ensures c.queue_starts-qu
 
 pub returns : goal.returns
 returns c =
-    says_lasso c.requires c.clear.ensures c.queue_starts-queue.ensures.says c.queue_starts-queue.ensures.slots c.in-Some.ensures.says c.path_length-len.ensures c.write_path-unsaved.ensures.value
+    find_lasso c.requires c.clear.ensures c.queue_starts-queue.ensures.says c.queue_starts-queue.ensures.slots c.in-Some.ensures.says c.path_length-len.ensures c.write_path-unsaved.ensures.value
     c.write_path-unsaved.ensures.report_after c.clear-2.ensures (search rules)

@@ -1,7 +1,8 @@
 -- Each fact that the check leaves is what is known at its place (proofs/Places.antt).
 use Rattle.std.proofs.Common.{true, false, arith, rules}
-use Rattle.search.proofs.MeetLaws.{queue_trans}
-use Rattle.search.proofs.Places.{waiting_begins, waiting_goes_on, scan_stops, scan_ends, s_in, marks_inside, from_inside, to_inside, row_begun, next_inside, step_fits, first_fits, other_fits, done, done_saved}
+use Rattle.search.proofs.MeetLaws.{queue_trans, rest_trans}
+use Rattle.search.proofs.Scanning.{left_ended, left_stopped}
+use Rattle.search.proofs.Places.{waiting_begins, waiting_goes_on, state_small, marks_inside, from_inside, to_inside, row_begun, next_inside, in_row, step_fits, stops, first_fits, other_fits, done_saved, done_unsaved, row_goes_on}
 use Rattle.search.proofs.scan.scan.Goals as goal
 use Rattle.search.proofs.scan.scan.Goals.{then-r-n, else-r-n}
 
@@ -20,7 +21,7 @@ pub row_start-from-requires : goal.row_start-from-requires
 row_start-from-requires c = from_inside c.requires c.loop-head.invariant.waiting c.loop-head-test.true c.of_slot-r.ensures
 
 pub overflow_add-r : goal.overflow_add-r
-overflow_add-r c = omega (arith, s_in c.requires c.loop-head.invariant.waiting c.loop-head-test.true c.of_slot-r.ensures)
+overflow_add-r c = omega (arith, state_small c.requires c.loop-head.invariant.waiting c.loop-head-test.true c.of_slot-r.ensures)
 
 pub row_start-to-requires : goal.row_start-to-requires
 row_start-to-requires c = to_inside c.requires c.loop-head.invariant.waiting c.loop-head-test.true c.of_slot-r.ensures
@@ -39,42 +40,41 @@ pub target-next-requires : goal.target-next-requires
 target-next-requires c = next_inside c.loop-i.invariant.row c.loop-i-test.true
 
 pub returns-then-is_bad-clause-says : goal.returns-then-is_bad-clause-says
-returns-then-is_bad-clause-says c = scan_stops c.requires c.loop-head.invariant.waiting c.loop-i.invariant.row c.loop-i-test.true c.target-next.ensures c.step-saving.ensures c.is_bad.ensures c.if-is_bad.true
+returns-then-is_bad-clause-says c =
+    let k = in_row c.loop-i.invariant.row c.loop-i-test.true c.target-next.ensures in
+    left_stopped c.requires.slots_are (rest_trans c.loop-head.invariant.waiting.same c.loop-i.invariant.row.same) (stops k c.step-saving.ensures c.is_bad.ensures c.if-is_bad.true)
 
 pub slot-y-requires : goal.slot-y-requires
-slot-y-requires c = step_fits c.loop-i.invariant.row c.loop-i-test.true c.target-next.ensures true c.step-saving.ensures
+slot-y-requires c = step_fits (in_row c.loop-i.invariant.row c.loop-i-test.true c.target-next.ensures) true c.step-saving.ensures
 
 pub meet-requires : goal.meet-requires
-meet-requires c = first_fits c.loop-i.invariant.row c.loop-i-test.true c.target-next.ensures c.step-saving.ensures c.is_bad.ensures c.if-is_bad.false c.slot-y.ensures
+meet-requires c = first_fits (in_row c.loop-i.invariant.row c.loop-i-test.true c.target-next.ensures) c.step-saving.ensures c.slot-y.ensures
 
 pub slot-z-requires : goal.slot-z-requires
-slot-z-requires c = step_fits c.loop-i.invariant.row c.loop-i-test.true c.target-next.ensures false c.step-plain.ensures
+slot-z-requires c = step_fits (in_row c.loop-i.invariant.row c.loop-i-test.true c.target-next.ensures) false c.step-plain.ensures
 
 pub meet-requires-then-r-n : goal.meet-requires-then-r-n
 meet-requires-then-r-n c =
+    let k = in_row c.loop-i.invariant.row c.loop-i-test.true c.target-next.ensures in
     rw c.meet.ensures.same.slots
-    (other_fits c.loop-i.invariant.row c.loop-i-test.true c.target-next.ensures c.step-saving.ensures c.is_bad.ensures c.if-is_bad.false c.slot-y.ensures c.meet.ensures.says c.if-r-n.true
-    c.step-plain.ensures c.slot-z.ensures)
+    (other_fits k c.step-saving.ensures c.slot-y.ensures c.is_bad.ensures c.if-is_bad.false c.meet.ensures.says c.step-plain.ensures c.slot-z.ensures)
 
 pub loop-i-preserved : goal.loop-i-preserved
-loop-i-preserved c = elim c.if-r-n.branch [
-  | else-r-n w ↦
-      rw w.queue-is (record {
-        row =
-            rw c.meet.ensures.same.slots
-            (done_saved c.loop-i.invariant.row c.loop-i-test.true c.target-next.ensures c.step-saving.ensures c.is_bad.ensures c.if-is_bad.false c.slot-y.ensures c.meet.ensures.says w.if-r-n.false);
-        same = queue_trans c.loop-i.invariant.same c.meet.ensures.same;
-      })
-  | then-r-n w ↦
-      let says = rw c.meet.ensures.same.slots at w.meet-then-r-n.ensures.says in
-      rw w.queue-is (record {
-        row =
-            rw (w.meet-then-r-n.ensures.same.slots, c.meet.ensures.same.slots)
-            (done c.loop-i.invariant.row c.loop-i-test.true c.target-next.ensures c.step-saving.ensures c.is_bad.ensures c.if-is_bad.false c.slot-y.ensures c.meet.ensures.says w.if-r-n.true
-            w.step-plain.ensures w.slot-z.ensures says);
-        same = queue_trans c.loop-i.invariant.same (queue_trans c.meet.ensures.same w.meet-then-r-n.ensures.same);
-      })
-]
+loop-i-preserved c =
+    let k = in_row c.loop-i.invariant.row c.loop-i-test.true c.target-next.ensures in
+    elim c.if-r-n.branch [
+      | else-r-n w ↦
+          let d = done_saved k c.step-saving.ensures c.slot-y.ensures c.is_bad.ensures c.if-is_bad.false c.meet.ensures.says w.if-r-n.false in
+          rw w.queue-is (record { row = rw c.meet.ensures.same.slots (row_goes_on c.loop-i.invariant.row d); same = queue_trans c.loop-i.invariant.same c.meet.ensures.same })
+      | then-r-n w ↦
+          let says = rw c.meet.ensures.same.slots at w.meet-then-r-n.ensures.says in
+          let m = c.meet.ensures.says in
+          let d = done_unsaved k c.step-saving.ensures c.slot-y.ensures c.is_bad.ensures c.if-is_bad.false m w.step-plain.ensures w.slot-z.ensures w.if-r-n.true says in
+          rw w.queue-is (record {
+            row = rw (w.meet-then-r-n.ensures.same.slots, c.meet.ensures.same.slots) (row_goes_on c.loop-i.invariant.row d);
+            same = queue_trans c.loop-i.invariant.same (queue_trans c.meet.ensures.same w.meet-then-r-n.ensures.same);
+          })
+    ]
 
 -- ---- the row's end, and the next index of the queue
 
@@ -85,4 +85,4 @@ loop-head-preserved c = record {
 }
 
 pub returns-after-loop-head-clause-says : goal.returns-after-loop-head-clause-says
-returns-after-loop-head-clause-says c = scan_ends c.requires c.loop-head.invariant.waiting c.loop-head-test.false
+returns-after-loop-head-clause-says c = left_ended c.requires.slots_are c.loop-head.invariant.waiting c.loop-head-test.false

@@ -16,7 +16,7 @@ meet-requires c = rw c.loop-s.invariant.same.slots (slot_fits c.requires c.loop-
 
 pub loop-s-preserved : goal.loop-s-preserved
 loop-s-preserved c = elim c.if-start.branch [
-  | else-start w ↦ rw w.queue-is (record { queueing = queueing_passes c.requires c.loop-s.invariant.queueing c.is_start-start.ensures w.if-start.false; same = c.loop-s.invariant.same })
+  | else-start w ↦ rw w.queue-is (record { queueing = queueing_passes c.requires c.loop-s.invariant.queueing c.loop-s-test.true c.is_start-start.ensures w.if-start.false; same = c.loop-s.invariant.same })
   | then-start w ↦
       let says = rw c.loop-s.invariant.same.slots at w.meet.ensures.says in
       rw w.queue-is (record {
