@@ -81,7 +81,7 @@ pub record Counted (b : List ℕ) (S E : ℕ) : Type 0 where
   pub slots_are : S ≡ slots_of b
   pub edges_are : E ≡ edge_count (states_of b) (edges_of b) (sets_of b)
 
--- so they are where the table t was opened, and the code counts by it; and what the writers ask is met
+-- where the table t was opened, what the writers ask is met, and the numbers that the code counts by t are those
 module _ {b : List ℕ} {t : Table} (o : open_of b ≡ Ok t) where
   pub asked : Asks b t
   asked = record { formed = well_formed b t o; laid = laid b t o }

@@ -1,19 +1,14 @@
 -- The table is opened and taken, the code goes down line 11, and then it lends each part of the output to its writer.
-use Rattle.std.proofs.Common.{Ok, ◌≡◌, ◌+◌, ◌*◌, ◌≤◌, ◌++◌, length, sym, ap, ◌∙◌, arith}
+use Rattle.std.proofs.Common.{sym, ap, ◌∙◌, arith}
 use Rattle.std.proofs.lemmas.Result.{err_from_is_err_and}
 use Rattle.recorder.specs.Flag.{live_flag}
-use Rattle.table.specs.Open.{open_of}
-use Rattle.table.proofs.WellFormed.{laid}
 use Rattle.writing.specs.File.{listed}
-use Rattle.writing.specs.Placed.{placed}
 use Rattle.translation.specs.File.{slot_mark}
 use Rattle.translation.proofs.Laws.{table_refused, short_output, translated, Counted, asked, counted, size_is, sizes_small, header_there, rows_room, rows_there, targets_room, targets_there, marks_room, marks_there}
 use Rattle.translation.proofs.translate.Goals as goal
-use Rattle.translation.proofs.translate.Goals.{In_ok-t, After-edge_count-edges}
+use Rattle.translation.proofs.translate.Goals.{After-edge_count-edges}
 
-opened : (c : In_ok-t) → open_of c.args.bytes.now ≡ Ok c.in_ok-t.t
-opened c = sym c.in_ok-t.ensures
-
+-- what the code counted
 sizes : (c : After-edge_count-edges) → Counted c.args.bytes.now c.slot_count-slots.result c.edge_count-edges.result
 sizes c = counted (sym c.in_ok-t.ensures) c.slot_count-slots.ensures c.edge_count-edges.ensures
 
@@ -21,10 +16,10 @@ pub returns-in_err-t : goal.returns-in_err-t
 returns-in_err-t c = let p = err_from_is_err_and c.from_residual.result c.from_residual.ensures.1 in rw (p.1, p.2) (table_refused _ _ _ (sym c.in_err-t.ensures))
 
 pub slot_count-slots-requires : goal.slot_count-slots-requires
-slot_count-slots-requires c = let l = laid _ _ (opened c) in (l.states_to, omega (arith, l.sets_to))
+slot_count-slots-requires c = let l = (asked (sym c.in_ok-t.ensures)).laid in (l.states_to, omega (arith, l.sets_to))
 
 pub edge_count-edges-requires : goal.edge_count-edges-requires
-edge_count-edges-requires c = let l = laid _ _ (opened (goal.at.edge_count-edges-requires c).In_ok-t) in (l.states_to, l.edges_to, omega (arith, l.sets_to))
+edge_count-edges-requires c = let l = (asked (sym c.in_ok-t.ensures)).laid in (l.states_to, l.edges_to, omega (arith, l.sets_to))
 
 pub overflow_mul-targets : goal.overflow_mul-targets
 overflow_mul-targets c = omega (arith, sizes_small (sizes c))
