@@ -6,7 +6,7 @@ pub mod ReadBack
 pub mod MarksLaws
 pub mod Demand3
 pub mod Asks
-pub mod Along
 pub mod Writing
+pub mod Along
 pub mod Laws
 pub mod Written

@@ -25,15 +25,33 @@ use Rattle.translation.proofs.ReadBack.{states_read, edges_read, mark_read}
 use Rattle.translation.specs.Marks.{bad_in}
 
 -- a mark of three bits, read bit by bit
-bits : (a c d : Bool) → let x = bit_of a + 2 * bit_of c + 64 * bit_of d in (eqb (x % 2) 1 ≡ a) × (eqb (x / 2 % 2) 1 ≡ c) × (eqb (x / 64 % 2) 1 ≡ d)
-bits true true true = (refl, refl, refl)
-bits true true false = (refl, refl, refl)
-bits true false true = (refl, refl, refl)
-bits true false false = (refl, refl, refl)
-bits false true true = (refl, refl, refl)
-bits false true false = (refl, refl, refl)
-bits false false true = (refl, refl, refl)
-bits false false false = (refl, refl, refl)
+three_bits : (a c d : Bool) → let x = bit_of a + 2 * bit_of c + 64 * bit_of d in (eqb (x % 2) 1 ≡ a) × (eqb (x / 2 % 2) 1 ≡ c) × (eqb (x / 64 % 2) 1 ≡ d)
+three_bits true true true = (refl, refl, refl)
+three_bits true true false = (refl, refl, refl)
+three_bits true false true = (refl, refl, refl)
+three_bits true false false = (refl, refl, refl)
+three_bits false true true = (refl, refl, refl)
+three_bits false true false = (refl, refl, refl)
+three_bits false false true = (refl, refl, refl)
+three_bits false false false = (refl, refl, refl)
+
+bit_zero : (a c d : Bool) → eqb ((bit_of a + 2 * bit_of c + 64 * bit_of d) % 2) 1 ≡ a
+bit_zero a c d = (three_bits a c d).0
+
+bit_one : (a c d : Bool) → eqb ((bit_of a + 2 * bit_of c + 64 * bit_of d) / 2 % 2) 1 ≡ c
+bit_one a c d = (three_bits a c d).1
+
+bit_six : (a c d : Bool) → eqb ((bit_of a + 2 * bit_of c + 64 * bit_of d) / 64 % 2) 1 ≡ d
+bit_six a c d = (three_bits a c d).2
+
+-- what the block of any bytes reads of a mark
+start_is : (c : List ℕ) (p : ℕ) → (block_of c).start p ≡ eqb (mark c p % 2) 1
+unfolding block_of
+start_is c p = refl
+
+goal_is : (c : List ℕ) (p : ℕ) → (block_of c).goal p ≡ eqb (mark c p / 2 % 2) 1
+unfolding block_of
+goal_is c p = refl
 
 -- the test of a start
 is_start_lem : (R : Flag) (b : List ℕ) (p : ℕ) → is_start R b p ≡ true → (graph_of R b).Start p
@@ -53,29 +71,31 @@ module _ (R : Flag) (b : List ℕ) (f : WellFormed b) where
   abbrev F : List ℕ
   F = file_of R b
 
-  -- past the last slot there are no starts: the bytes end
-  no_start : (p : ℕ) → slots_of b ≤ p → (block_of F).start p ≡ false
-  unfolding block_of mark
-  no_start p h =
-      ap (λ (x : ℕ). eqb (x % 2) 1) (get_or-eq_default F 0 (omega (arith, length_file R b f, all_targets R b f, states_read R b f, edges_read R b f)))
+  -- past the last slot there are no marks: the bytes end
+  no_mark : (p : ℕ) → slots_of b ≤ p → mark F p ≡ 0
+  unfolding mark
+  no_mark p h = get_or-eq_default F 0 (omega (arith, length_file R b f, all_targets R b f, states_read R b f, edges_read R b f))
 
   module _ (p : ℕ) (p_in : p < slots_of b) where
-    read : let x = mark F p in (eqb (x % 2) 1 ≡ is_start R b p) × (eqb (x / 2 % 2) 1 ≡ (block_of b).goal (state_of b p))
-        × (eqb (x / 64 % 2) 1 ≡ bad_of (block_of b) (at (block_of b) p))
+    abbrev goal : Bool
+    goal = (block_of b).goal (state_of b p)
+
+    abbrev bad : Bool
+    bad = bad_of (block_of b) (at (block_of b) p)
+
+    bits : mark F p ≡ bit_of (is_start R b p) + 2 * bit_of goal + 64 * bit_of bad
     unfolding slot_mark
-    read = rw (mark_read R b f p p_in) (bits (is_start R b p) ((block_of b).goal (state_of b p)) (bad_of (block_of b) (at (block_of b) p)))
+    bits = mark_read R b f p p_in
 
     pub start_mark : (block_of F).start p ≡ is_start R b p
-    unfolding block_of
-    start_mark = read.0
+    start_mark = start_is F p ∙ ap (λ (x : ℕ). eqb (x % 2) 1) bits ∙ bit_zero (is_start R b p) goal bad
 
     pub goal_mark : (block_of F).goal p ≡ (block_of b).goal (state_of b p)
-    unfolding block_of
-    goal_mark = read.1
+    goal_mark = goal_is F p ∙ ap (λ (x : ℕ). eqb (x / 2 % 2) 1) bits ∙ bit_one (is_start R b p) goal bad
 
     pub bad_mark : bad_in F p ≡ bad_of (block_of b) (at (block_of b) p)
     unfolding bad_in
-    bad_mark = read.2
+    bad_mark = ap (λ (x : ℕ). eqb (x / 64 % 2) 1) bits ∙ bit_six (is_start R b p) goal bad
 
   -- a slot is a start of the file exactly if it is one of the slot graph
   pub start_read : (p : ℕ) → ((block_of F).start p ≡ true) ↔ (graph_of R b).Start p
@@ -89,7 +109,7 @@ module _ (R : Flag) (b : List ℕ) (f : WellFormed b) where
         where
           go : Dec (p < slots_of b) → (graph_of R b).Start p
           go (yes l) = is_start_lem R b p (sym (start_mark p l) ∙ e)
-          go (no l) = absurd (true≢false (sym e ∙ no_start p (omega arith)))
+          go (no l) = absurd (true≢false (sym e ∙ start_is F p ∙ ap (λ (x : ℕ). eqb (x % 2) 1) (no_mark p (omega arith))))
 
       from : (graph_of R b).Start p → (block_of F).start p ≡ true
       from (s, h, d) =

@@ -1,31 +1,28 @@
--- When slot p comes, its record is there and the marks of the slots before it are written.
-use Rattle.std.proofs.Common.{sym, arith}
+-- When slot p comes, its record is there and the marks of the slots before it are written (`Marking`).
+use Rattle.std.proofs.Common.{refl, sym, arith}
 use Rattle.recorder.specs.Flag.{live_flag}
-use Rattle.writing.specs.File.{listed}
-use Rattle.writing.proofs.Placed.{placed_none}
-use Rattle.translation.specs.File.{slot_mark}
+use Rattle.table.specs.Recording.{slots_of}
 use Rattle.translation.proofs.Asks.{record_range, slot_is, next_is}
-use Rattle.translation.proofs.Writing.{byte_on, bytes_end}
+use Rattle.translation.proofs.Writing.{marking_begins, marking_on, marking_ends}
 use Rattle.translation.proofs.marks.write_marks.Goals as goal
 
 pub loop-p-init : goal.loop-p-init
-unfolding listed
-loop-p-init c = record { record_is = c.of_slot-r.ensures; written = placed_none 0 c.args.part.now }
+loop-p-init c = record { here = c.of_slot-r.ensures; written = marking_begins live_flag c.args.bytes.now c.args.part.now (slots_of c.args.bytes.now) c.requires.part_len }
 
 pub mark-requires-clause-r_in : goal.mark-requires-clause-r_in
-mark-requires-clause-r_in c = (record_range c.requires.asks (omega arith) c.loop-p.invariant.record_is).2
+mark-requires-clause-r_in c = (record_range c.requires.asks refl (omega arith, c.loop-p.invariant.here)).2
 
 pub mark-requires-clause-p_is : goal.mark-requires-clause-p_is
-mark-requires-clause-p_is c = sym (slot_is c.requires.asks (omega arith) c.loop-p.invariant.record_is)
+mark-requires-clause-p_is c = sym (slot_is c.requires.asks refl (omega arith, c.loop-p.invariant.here))
 
 pub following-r-requires : goal.following-r-requires
-following-r-requires c = record_range c.requires.asks (omega arith) c.loop-p.invariant.record_is
+following-r-requires c = record_range c.requires.asks refl (omega arith, c.loop-p.invariant.here)
 
 pub loop-p-preserved : goal.loop-p-preserved
 loop-p-preserved c = record {
-  record_is = next_is c.requires.asks (omega arith) c.loop-p.invariant.record_is c.following-r.ensures;
-  written = byte_on (slot_mark live_flag c.args.bytes.now) c.args.part.now c.mark.ensures c.loop-p.invariant.written (omega arith);
+  here = next_is c.requires.asks refl (omega arith, c.loop-p.invariant.here) c.following-r.ensures;
+  written = marking_on c.loop-p.invariant.written (omega arith) c.mark.ensures;
 }
 
 pub returns : goal.returns
-returns c = bytes_end (slot_mark live_flag c.args.bytes.now) c.args.part.now _ _ c.loop-p.invariant.written (omega arith) c.requires.part_len
+returns c = marking_ends c.loop-p.invariant.written (omega arith)

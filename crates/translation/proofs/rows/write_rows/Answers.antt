@@ -1,36 +1,36 @@
--- When slot p comes, its record is there, the row starts before it are written, and sum is where its own row starts.
-use Rattle.std.proofs.Common.{suc, ◌+◌, refl, arith}
+-- When slot p comes, its record is there, the row starts before it are written, and sum is where its own row starts (`Starting`).
+use Rattle.std.proofs.Common.{◌+◌, ◌∙◌, ap, length, arith}
 use Rattle.recorder.specs.Flag.{live_flag}
-use Rattle.writing.specs.File.{listed, join_to}
-use Rattle.writing.proofs.Placed.{placed_none}
-use Rattle.translation.specs.File.{start_of_row}
-use Rattle.translation.proofs.Asks.{record_range, next_is, next_start, starts_small}
-use Rattle.translation.proofs.Writing.{number_on, numbers_end}
+use Rattle.translation.proofs.Asks.{record_range, row_is, next_is, starts_small}
+use Rattle.translation.proofs.Writing.{Starting, starting_begins, starting_on, starting_ends}
 use Rattle.translation.proofs.rows.write_rows.Goals as goal
+use Rattle.translation.proofs.rows.write_rows.Goals.{After-row_length-sum}
+
+-- what holds once the row of slot p is counted
+counted : (c : After-row_length-sum) → Starting live_flag c.args.bytes.now c.args.part.now c.args.slots c.put.new.part (c.loop-p.sum + c.row_length-sum.result) (c.loop-p.p + 1)
+counted c =
+    let row = row_is c.requires.asks c.requires.slots_are (omega arith, c.loop-p.invariant.here) live_flag in
+    starting_on c.loop-p.invariant.written c.put.ensures (omega arith) (c.row_length-sum.ensures ∙ ap length row)
 
 pub loop-p-init : goal.loop-p-init
-unfolding listed join_to
-loop-p-init c = record { record_is = c.of_slot-r.ensures; sum_is = refl; written = placed_none 0 c.args.part.now }
+loop-p-init c = record { here = c.of_slot-r.ensures; written = starting_begins live_flag c.args.bytes.now c.args.part.now c.args.slots c.requires.part_len }
 
 pub row_length-sum-requires-clause-r_in : goal.row_length-sum-requires-clause-r_in
-row_length-sum-requires-clause-r_in c = (record_range c.requires.asks (omega arith) c.loop-p.invariant.record_is).2
+row_length-sum-requires-clause-r_in c = (record_range c.requires.asks c.requires.slots_are (omega arith, c.loop-p.invariant.here)).2
 
 pub overflow_add-sum : goal.overflow_add-sum
 overflow_add-sum c =
-    let next = next_start c.requires.asks (omega arith) c.loop-p.invariant.record_is live_flag in
-    omega (arith, starts_small live_flag c.requires.asks (c.loop-p.p + 1) (omega arith))
+    let v = counted (goal.at.overflow_add-sum c).After-row_length-sum in
+    omega (arith, v.sum_is, starts_small live_flag c.requires.asks c.requires.slots_are v.to)
 
 pub following-r-requires : goal.following-r-requires
-following-r-requires c = record_range c.requires.asks (omega arith) c.loop-p.invariant.record_is
+following-r-requires c = record_range c.requires.asks c.requires.slots_are (omega arith, c.loop-p.invariant.here)
 
 pub loop-p-preserved : goal.loop-p-preserved
 loop-p-preserved c = record {
-  record_is = next_is c.requires.asks (omega arith) c.loop-p.invariant.record_is c.following-r.ensures;
-  sum_is = omega (arith, next_start c.requires.asks (omega arith) c.loop-p.invariant.record_is live_flag);
-  written = number_on (start_of_row live_flag c.args.bytes.now) c.args.part.now c.loop-p.invariant.sum_is c.loop-p.invariant.written c.put.ensures refl (omega arith);
+  here = next_is c.requires.asks c.requires.slots_are (omega arith, c.loop-p.invariant.here) c.following-r.ensures;
+  written = counted (goal.at.loop-p-preserved c).After-row_length-sum;
 }
 
 pub returns : goal.returns
-returns c =
-    let all = number_on (start_of_row live_flag c.args.bytes.now) c.args.part.now c.loop-p.invariant.sum_is c.loop-p.invariant.written c.put-2.ensures (omega arith) (omega arith) in
-    numbers_end _ c.args.part.now (c.loop-p.p + 1) (suc c.args.slots) all (omega arith) c.requires.part_len
+returns c = starting_ends c.loop-p.invariant.written c.put-2.ensures (omega arith)

@@ -1,18 +1,9 @@
--- What the loop keeps when slot p comes, where p is the counter.
-use Rattle.std.proofs.Common.{◌≡◌, ◌*◌}
+-- What the loop keeps when slot p comes, where p is the counter: r is its record, the rows of the slots before it are written, and at is the index
+-- after them.
 use Rattle.recorder.specs.Flag.{live_flag}
-use Rattle.recorder.specs.Slots.{record_of_slot}
-use Rattle.table.specs.Layout.{little_endian}
-use Rattle.writing.specs.Placed.{placed}
-use Rattle.translation.specs.File.{targets_to, start_of_row}
+use Rattle.translation.proofs.Asks.{Carries}
+use Rattle.translation.proofs.Writing.{Targeting}
 use Rattle.translation.proofs.targets.write_targets.Given as goal
 
 abbrev pub invariant-loop : goal.invariant-loop
-invariant-loop l = record {
-  -- r is its record
-  record_is : l.r ≡ record_of_slot l.t.states l.t.sets l.counter;
-  -- at is the index after the rows of the slots before it
-  at_is : l.at ≡ 4 * start_of_row live_flag l.bytes l.counter;
-  -- which are written
-  written : l.part ≡ placed 0 (little_endian (targets_to live_flag l.bytes l.counter)) l.initial.part;
-}
+invariant-loop l = Carries l.t l.counter l.r (Targeting live_flag l.bytes l.initial.part l.slots l.part l.at l.counter)
