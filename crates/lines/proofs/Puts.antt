@@ -1,6 +1,6 @@
 -- Laws of specs/Puts.antt. Assumes nothing.
 use Rattle.std.specs.Prelude.{◌≡◌, refl, List, [], ◌∷◌, ◌++◌, ℕ, suc, ◌+◌, ◌*◌, ◌^◌, ◌≤◌, ◌<◌, length, get_or, set, take, drop, ◌-◌}
-use Rattle.std.proofs.Common.{sym, ap, ◌∙◌, subst, append_assoc, append-nil, arith, length-append, length-set, take-suc, take_all, get_or-append-add}
+use Rattle.std.proofs.Common.{sym, ap, ◌∙◌, subst, append_assoc, append-nil, arith, length-append, take-suc, take_all, get_or-append-add}
 use Rattle.std.proofs.Math.ListN.{get_or-append}
 use Rattle.writing.specs.Placed.{placed}
 use Rattle.writing.proofs.Placed.{placed_none, placed_one, placed_on, part_placed, length-placed}
@@ -76,6 +76,7 @@ adds_on a b = record { puts = puts_on a.puts b.puts; same = b.same ∙ a.same; s
 pub adds_as : {xs ys : List ℕ} {p q : Page} → xs ≡ ys → Adds xs p q → Adds ys p q
 adds_as {p = p} {q = q} e a = subst (λ (l : List ℕ). Adds l p q) e a
 
+-- or by a law of the text
 pub adds_by : {xs ys : List ℕ} {p q : Page} → (Puts xs p.end p.out.now q.end q.out.now → Puts ys p.end p.out.now q.end q.out.now) → Adds xs p q → Adds ys p q
 adds_by f a = record { puts = f a.puts; same = a.same; size = a.size }
 

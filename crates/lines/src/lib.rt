@@ -10,6 +10,7 @@ use page::Page;
 
 // What verdict prints for the bytes of a table: its text stands at the start of the output, and the answer is its length. The longest run has 8,192
 // states; each takes at most 21 bytes.
+#[tactic(auto, using(crate::proofs::Laws::row_fits, crate::proofs::Laws::run_fits))]
 pub fn verdict(
     table: &[u8],
     work: &mut [u32; 16384],
