@@ -97,39 +97,64 @@ one_more ns i h =
     ∙ numbers_append (take i ns) (get_or ns i 0 ∷ [])
     ∙ ap (λ (l : List ℕ). numbers_of (take i ns) ++ l) (append-nil (32 ∷ decimal_of (get_or ns i 0)))
 
--- the word is there
-pub begun : {word : List ℕ} (ns : List ℕ) {p q : Page} → Adds word p q → Begun word ns p 0 q
+pub begun : (ns : List ℕ) (from : ℕ) (w : List ℕ) → from ≤ length w → Begun ns from w 0 from w
 unfolding numbers_of
-begun {word} ns a = let e = a.puts.ends in record { adds = adds_as (sym (append-nil word)) a; short = omega arith; upto = omega arith }
+begun ns from w h = record { text = record { has = placed_none from w; ends = omega arith; room = h }; short = omega arith; upto = omega arith }
 
 -- one number more
-pub begun_on : {word ns : List ℕ} {p q r : Page} {i j n : ℕ} → Begun word ns p i q → i < length ns → n ≡ get_or ns i 0 → Adds (32 ∷ decimal_of n) q r → r.end ≤ q.end + 21
-    → j ≡ i + 1 → Begun word ns p j r
-begun_on {word} {ns} {p} {q} {r} {i} {j} {n} b h e a l f =
+pub begun_on : {ns : List ℕ} {from i mid to n : ℕ} {w w' w'' : List ℕ} → Begun ns from w i mid w' → i < length ns → n ≡ get_or ns i 0
+    → Puts (32 ∷ decimal_of n) mid w' to w'' → to ≤ mid + 21 → Begun ns from w (i + 1) to w''
+begun_on {ns} {from} {i} {mid} {to} {n} {w} {w'} {w''} b h e p l =
     let s = b.short in
-    let more : (word ++ numbers_of (take i ns)) ++ (32 ∷ decimal_of n) ≡ word ++ numbers_of (take j ns) =
-    append_assoc word (numbers_of (take i ns)) (32 ∷ decimal_of n)
-    ∙ ap (λ (x : ℕ). word ++ (numbers_of (take i ns) ++ (32 ∷ decimal_of x))) e
-    ∙ ap (λ (l : List ℕ). word ++ l) (sym (one_more ns i h))
-    ∙ ap (λ (k : ℕ). word ++ numbers_of (take k ns)) (sym f) in
-    record { adds = adds_as more (adds_on b.adds a); short = omega arith; upto = omega arith }
+    record {
+      text = subst (λ (l : List ℕ). Puts l from w to w'') (ap (λ (x : ℕ). numbers_of (take i ns) ++ (32 ∷ decimal_of x)) e ∙ sym (one_more ns i h)) (puts_on b.text p);
+      short = omega arith;
+      upto = omega arith;
+    }
 
--- where a line ends that has its word and i numbers
-pub line_room : {word ns : List ℕ} {p q : Page} {i : ℕ} → Begun word ns p i q → (length q.out.now ≡ length p.out.now) × (q.end ≤ p.end + length word + 21 * i)
-line_room b = (b.adds.size, b.short)
+-- where a line stands that has its word and i numbers
+pub line_room : {word ns : List ℕ} {at from i mid : ℕ} {w w' w'' : List ℕ} → Puts word at w from w' → Begun ns from w' i mid w''
+    → (length w'' ≡ length w) × (mid ≤ at + length word + 21 * i)
+line_room p b = let e = p.ends in let s = b.short in (puts_length b.text ∙ puts_length p, omega arith)
 
--- the end of the line after them
-pub line_done : {word ns : List ℕ} {p q r : Page} {i : ℕ} → Begun word ns p i q → length ns ≤ i → Adds (10 ∷ []) q r → Adds (line_of word ns) p r
-line_done {word} {ns} {p} {q} {r} {i} b h a =
-    let e : (word ++ numbers_of (take i ns)) ++ (10 ∷ []) ≡ line_of word ns =
-    ap (λ (l : List ℕ). word ++ numbers_of l ++ (10 ∷ [])) (take_all i ns h) in
-    adds_as e (adds_on b.adds a)
+-- the word before them and the end of the line after them
+pub line_done : {word ns : List ℕ} {at from i mid to : ℕ} {w w' w'' w''' : List ℕ} → Puts word at w from w' → Begun ns from w' i mid w'' → length ns ≤ i
+    → Puts (10 ∷ []) mid w'' to w''' → Puts (line_of word ns) at w to w'''
+line_done {word} {ns} {at} {from} {i} {mid} {to} {w} {w'} {w''} {w'''} p b h q =
+    subst (λ (l : List ℕ). Puts (word ++ numbers_of l ++ (10 ∷ [])) at w to w''') (take_all i ns h) (puts_on (puts_on p b.text) q)
+
+-- ---- a line on a page
+
+-- a line's word and the first i of its numbers are added
+pub record OnPage (word ns : List ℕ) (p : Page) (i : ℕ) (p' : Page) : Type 0 where
+  -- the page after the word
+  pub after : Page
+  pub word_put : Adds word p after
+  pub numbers : Begun ns after.end after.out.now i p'.end p'.out.now
+  pub same : p'.out.ghost_name ≡ after.out.ghost_name
+  pub size : length p'.out.now ≡ length after.out.now
+
+pub line_begins : {word : List ℕ} (ns : List ℕ) {p q : Page} → Adds word p q → OnPage word ns p 0 q
+line_begins ns {p} {q} a =
+    let r = a.puts.room in
+    record { after = q; word_put = a; numbers = begun ns q.end q.out.now (omega (arith, a.size)); same = refl; size = refl }
+
+pub line_goes_on : {word ns : List ℕ} {p q r : Page} {i n : ℕ} → OnPage word ns p i q → i < length ns → n ≡ get_or ns i 0 → Adds (32 ∷ decimal_of n) q r → r.end ≤ q.end + 21
+    → OnPage word ns p (i + 1) r
+line_goes_on b h e a l =
+    record { after = b.after; word_put = b.word_put; numbers = begun_on b.numbers h e a.puts l; same = a.same ∙ b.same; size = a.size ∙ b.size }
+
+pub line_ends : {word ns : List ℕ} {p q r : Page} {i : ℕ} → OnPage word ns p i q → length ns ≤ i → Adds (10 ∷ []) q r → Adds (line_of word ns) p r
+line_ends b h a =
+    record { puts = line_done b.word_put.puts b.numbers h a.puts; same = a.same ∙ b.same ∙ b.word_put.same; size = a.size ∙ b.size ∙ b.word_put.size }
 
 -- the numbers of a line are the few and then the states
 module _ {word : List ℕ} (few states : List ℕ) {p q r : Page} {i : ℕ} where
-  pub few_on : Begun word (few ++ states) p i q → i < length few → Adds (32 ∷ decimal_of (get_or few i 0)) q r → r.end ≤ q.end + 21 → Begun word (few ++ states) p (i + 1) r
-  few_on b h a l = begun_on b (omega (arith, length-append few states)) (sym (get_or-append few states 0 i h)) a l refl
+  pub few_on : OnPage word (few ++ states) p i q → i < length few → Adds (32 ∷ decimal_of (get_or few i 0)) q r → r.end ≤ q.end + 21 → OnPage word (few ++ states) p (i + 1) r
+  few_on b h a l = line_goes_on b (omega (arith, length-append few states)) (sym (get_or-append few states 0 i h)) a l
 
-  pub states_on : Begun word (few ++ states) p (length few + i) q → i < length states → Adds (32 ∷ decimal_of (get_or states i 0)) q r → r.end ≤ q.end + 21
-      → Begun word (few ++ states) p (length few + (i + 1)) r
-  states_on b h a l = begun_on b (omega (arith, length-append few states)) (sym (get_or-append-add few states i 0)) a l (omega arith)
+  pub states_on : OnPage word (few ++ states) p (length few + i) q → i < length states → Adds (32 ∷ decimal_of (get_or states i 0)) q r → r.end ≤ q.end + 21
+      → OnPage word (few ++ states) p (length few + (i + 1)) r
+  states_on b h a l =
+      let e : length few + i + 1 ≡ length few + (i + 1) = omega arith in
+      rw (← e) (line_goes_on b (omega (arith, length-append few states)) (sym (get_or-append-add few states i 0)) a l)

@@ -1,5 +1,5 @@
 -- What a function that writes text into a lent buffer says. proofs/Puts.antt has the laws of writing text after text. Assumes nothing.
-use Rattle.std.specs.Prelude.{◌≡◌, List, ◌++◌, ℕ, ◌+◌, ◌*◌, ◌≤◌, length, take}
+use Rattle.std.specs.Prelude.{◌≡◌, List, ℕ, ◌+◌, ◌*◌, ◌≤◌, length, take}
 use Rattle.writing.specs.Placed.{placed}
 use Rattle.lines.specs.Text.{numbers_of}
 use Rattle.lines.specs.declared.page.Page.{Page}
@@ -16,9 +16,9 @@ pub record Adds (text : List ℕ) (p p' : Page) : Type 0 where
   pub same : p'.out.ghost_name ≡ p.out.ghost_name
   pub size : length p'.out.now ≡ length p.out.now
 
--- a line's word and the first i of its numbers are added
-pub record Begun (word ns : List ℕ) (p : Page) (i : ℕ) (p' : Page) : Type 0 where
-  pub adds : Adds (word ++ numbers_of (take i ns)) p p'
+-- the first i numbers are written
+pub record Begun (ns : List ℕ) (from : ℕ) (w : List ℕ) (i to : ℕ) (w' : List ℕ) : Type 0 where
+  pub text : Puts (numbers_of (take i ns)) from w to w'
   -- a number takes at most 21 bytes, its space among them
-  pub short : p'.end ≤ p.end + length word + 21 * i
+  pub short : to ≤ from + 21 * i
   pub upto : i ≤ length ns
