@@ -62,6 +62,7 @@ fn sheet_of(bytes: &[u8], t: Table) -> Sheet
 pub fn quote(bytes: &[u8]) -> Result<Quoted, Refusal>
     ensures { result ≡ quote_of bytes.now }
 {
+    // Not by `?`: docs/RULES.md, "Forms in the code", names the form.
     let opened = opening::open(bytes);
     let Ok(table) = opened else {
         return Err(opening::why(opened));

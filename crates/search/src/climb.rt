@@ -1,4 +1,5 @@
-// Following the origins from an index of the queue back to a start: how long the path to that index is, and the states on it.
+// Following the origins from an index of the queue back to a start: how long the path to that index is, and the states on it. The loops go from origin to
+// origin and count no index, so they are no `for`.
 ghost use Rattle.std.specs.Prelude.{◌≡◌, ◌++◌, ℕ, ◌≤◌, ◌<◌, length, drop};
 ghost use Rattle.recorder.specs.Slots.{slot_count};
 ghost use Rattle.search.specs.Climb.{Climbs, path_by, label_of};

@@ -43,6 +43,7 @@ fn find(bytes: &[u8], t: Table, work: &mut [u32], report: &mut [u32], slots: usi
 pub fn search(bytes: &[u8], work: &mut [u32], report: &mut [u32]) -> Result<Option<Lasso>, Refusal>
     ensures { SearchSays bytes.now work.old report.old result work.new report.new }
 {
+    // Not by `?`: docs/RULES.md, "Forms in the code", names the form.
     let opened = opening::open(bytes);
     let Ok(t) = opened else {
         return Err(opening::why(opened));

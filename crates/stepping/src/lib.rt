@@ -20,6 +20,7 @@ fn fits(n: usize, m: usize, r: Record, next: usize) -> bool
 pub fn step(bytes: &[u8], r: Record, next: usize, wish: bool) -> Result<Record, Refusal>
     ensures { result ≡ stepped_of bytes.now r next wish }
 {
+    // Not by `?`: docs/RULES.md, "Forms in the code", names the form.
     let opened = opening::open(bytes);
     let Ok(t) = opened else {
         return Err(opening::why(opened));

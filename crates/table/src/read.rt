@@ -1,5 +1,6 @@
 // The reading functions: what stands at a place of the file. Each asks just that the place is inside; an accepted table's places are, by
-// the laws of proofs/Inside.antt.
+// the laws of proofs/Inside.antt. They take the bytes and the counts apart: a struct of both whose invariant says that the counts are the header's would
+// ask more than these functions of docs/PROMISES.md do, and one without it is no plainer, since each clause has `self.entry.bytes.now` for `bytes.now`.
 ghost use Rattle.std.specs.Prelude.{◌≡◌, ◌+◌, ◌≤◌, ◌<◌, length};
 ghost use Rattle.table.specs.Layout.{word_at, states_of, row_start as rowStartOf, target as target_of, mark as mark_of};
 ghost use Rattle.table.specs.Inside.{RowInside, TargetInside, MarkInside};
@@ -44,7 +45,7 @@ pub fn mark(bytes: &[u8], t: Table, s: usize) -> u8
     bytes[28 + 4 * (t.states + 1) + 4 * t.edges + s]
 }
 
-// The state s is a start: bit 0 of its marks.
+// The state s is a start: bit 0 of its marks. (One function over the bit's number would be no plainer than `is_start` and `has_goal` at a call.)
 #[tactic(auto, unfolding(crate::specs::BlockOf::block_of))]
 pub fn is_start(bytes: &[u8], t: Table, s: usize) -> bool
     requires { MarkInside bytes.now t s }

@@ -1,4 +1,5 @@
-// The refusal list as an enum, with its numbers and places, in the list's order. docs/RULES.md, "Refusal list".
+// The refusal list as an enum, in the list's order, with the numbers and places that the C functions and the programs tell. docs/RULES.md, "Refusal
+// list".
 ghost use Rattle.std.specs.Prelude.{◌≡◌};
 ghost use Rattle.table.specs.Refusals.{number_of, place_of};
 

@@ -1,4 +1,5 @@
-// The translated table. docs/RULES.md, "Translated table" and line 11 of "Refusal list". The rules stand in specs/.
+// The translated table. docs/RULES.md, "Translated table" and line 11 of "Refusal list". The rules stand in specs/. Each section has a loop over the slots of
+// its own: what the three have in common is `r.following` on the way, and a function over a closure for it would be no plainer.
 #![tactic(auto)]
 
 mod header;
@@ -14,6 +15,7 @@ use table::Refusal;
 pub fn translate(bytes: &[u8], out: &mut [u8]) -> Result<usize, Refusal>
     ensures { TranslateSays bytes.now out.old result out.new }
 {
+    // Not by `?`: docs/RULES.md, "Forms in the code", names the form.
     let opened = opening::open(bytes);
     let Ok(t) = opened else {
         return Err(opening::why(opened));

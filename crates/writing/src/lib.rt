@@ -22,7 +22,7 @@ pub fn clear(words: &mut [u32], k: usize)
     words[..k].fill(0);
 }
 
-// The word at index i.
+// The word at index i. (std has no `From<u32>` for usize.)
 pub fn at(words: &[u32], i: usize) -> usize
     requires { i < length words.now }
     ensures { result ≡ get_or words.now i 0 }
