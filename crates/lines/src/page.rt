@@ -28,12 +28,13 @@ impl Page<'_> {
         ensures upper_bound { self.new.end ≤ self.old.end + 21 }
     {
         let mut digits = [0u8; 20];
+        // std has no `From<usize>` for u64.
         let k = io::decimal(n as u64, &mut digits);
         self.text(b" ");
         self.text(&digits[..k]);
     }
 
-    // Writes a line: the word, and after a space each of the few numbers and each state.
+    // Writes a line: the word, and after a space each of the few numbers and each state. (std has no `From<u32>` for usize.)
     pub(crate) fn line(&mut self, word: &[u8], few: &[usize], states: &[u32])
         requires { self.old.end + length word.now + 21 * (length few.now + length states.now) + 1 ≤ length self.old.out.now }
         ensures adds { Adds (line_of word.now (few.now ++ states.now)) self.old self.new }

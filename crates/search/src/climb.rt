@@ -49,6 +49,7 @@ pub(crate) fn write_path(
         left -= 1;
         let x = writing::at(work, slots + i);
         let r = Record::of_slot(x, n, m);
+        // A state is below 64; `TryFrom` would have an arm that is never reached.
         report[left] = r.s as u32;
         unsaved += usize::from(r.t == n);
         let origin = writing::at(work, x);

@@ -21,6 +21,7 @@ impl Queue<'_> {
         if self.work[x] != 0 {
             return;
         }
+        // Both are below 2^32 (`MeetAsks`); `TryFrom` would have an arm that is never reached.
         self.work[x] = origin as u32;
         self.work[self.slots + self.tail] = x as u32;
         self.tail += 1;

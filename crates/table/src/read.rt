@@ -9,7 +9,7 @@ ghost use Rattle.table.specs.WellFormed.{WellFormed};
 
 use super::Table;
 
-// The little-endian 32-bit number at index `at`.
+// The little-endian 32-bit number at index `at`. (std has no `From<u32>` for usize.)
 #[tactic(auto, unfolding(crate::specs::Layout::word_at))]
 pub fn word(bytes: &[u8], at: usize) -> usize
     requires { at + 4 ≤ length bytes.now }
