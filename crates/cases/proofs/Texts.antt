@@ -1,16 +1,11 @@
 -- Texts that are written one after the other. Definitions in specs/Printed.antt.
-use Rattle.std.proofs.Common.{◌≡◌, ℕ, ◌+◌, ◌<◌, List, [], ◌∷◌, length, get_or, take, Option, None, Some, Result, Ok, IsOk, refl, sym, ap, ◌∙◌}
+use Rattle.std.proofs.Common.{◌≡◌, ℕ, ◌+◌, ◌<◌, List, [], ◌∷◌, length, get_or, take, Option, None, Some, Result, Ok, IsOk, sym, ap, ◌∙◌}
 use Rattle.std.specs.Fmt.{DisplaysOnOk, ◌++?◌}
 use Rattle.std.specs.declared.fmt.Formatter.{Formatter}
 use Rattle.std.specs.declared.fmt.Error.{Error}
 use Rattle.std.proofs.Output.{has_written_append}
 use Rattle.std.proofs.lemmas.List.Sums.{fold_more}
 use Rattle.cases.specs.Printed.{spaced}
-
--- no items
-pub spaced_none : {T : Type 0} (text : T → Option (List ℕ)) → spaced text [] ≡ Some []
-unfolding spaced
-spaced_none text = refl
 
 -- one item more
 pub spaced_more : {T : Type 0} (text : T → Option (List ℕ)) (items : List T) (i : ℕ) (item : T) → i < length items → item ≡ get_or items i item

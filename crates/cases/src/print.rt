@@ -25,7 +25,7 @@ pub struct Numbers<'a, T>(pub &'a [T]);
 impl<T: fmt::Display> fmt::Display for Numbers<'_, T> {
     ghost output = { λ numbers. spaced T.output numbers.0.now };
 
-    #[tactic(auto, using(crate::proofs::Texts::spaced_none, crate::proofs::Texts::spaced_more, crate::proofs::Texts::written_more))]
+    #[tactic(auto, unfolding(crate::specs::Printed::spaced))]
     fn fmt<W: fmt::Write>(&self, f: &mut fmt::Formatter<W>) -> fmt::Result {
         for x in self.0 {
             write!(f, " {x}")?;
