@@ -5,7 +5,7 @@ ghost use Rattle.cases.specs.Printed.{refused_text, spaced};
 use std::fmt;
 use table::Refusal;
 
-// A refusal: its number, and its place, 0 where the list names none.
+// A refusal: its number, and its place, 0 where the list names none. The crate `lines` puts the same text into a lent buffer, where nothing can fail.
 #[derive(Drop)]
 pub struct Refused(pub Refusal);
 

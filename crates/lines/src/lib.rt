@@ -9,7 +9,7 @@ ghost use Rattle.lines.specs.Says.{VerdictSays, TranslateWrites};
 use page::Page;
 
 // What verdict prints for the bytes of a table: its text stands at the start of the output, and the answer is its length. The longest run has 8,192
-// states; each takes at most 21 bytes.
+// states; each takes at most 21 bytes. The buffers are the program's, which uses no heap, so the length comes back beside the output.
 #[tactic(auto, using(crate::proofs::Laws::row_fits, crate::proofs::Laws::run_fits))]
 pub fn verdict(
     table: &[u8],
@@ -32,7 +32,7 @@ pub fn verdict(
 }
 
 // What translate writes for the bytes of a table: the translated table, or the `refused` line. It stands at the start of the output, and the answer
-// is its length.
+// is its length, as above.
 pub fn translate(table: &[u8], out: &mut [u8; 65536]) -> usize
     ensures { TranslateWrites table.now out.old result out.new }
 {

@@ -18,6 +18,7 @@ fn board_line(page: &mut Page, board: Option<usize>)
 {
     page.text(b"board ");
     match board {
+        // A row is below 8; `TryFrom` would have an arm that is never reached.
         Some(row) => page.text(&[b'A' + row as u8, b'\n']),
         None => page.text(b"none\n"),
     }
@@ -36,7 +37,7 @@ pub(crate) fn sheet_lines(page: &mut Page, sheet: Sheet)
     page.line(b"members", &sheet.members, &[]);
 }
 
-// `refused`, number and place.
+// `refused`, number and place. (std has no `From<u32>` for usize.)
 pub(crate) fn refused_line(page: &mut Page, why: Refusal)
     requires { page.old.end + 50 ≤ length page.old.out.now }
     ensures { Adds (refused_line why) page.old page.new }

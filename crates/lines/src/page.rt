@@ -1,9 +1,10 @@
-// Writing text into a lent buffer, from its start on.
+// Writing text into a lent buffer, from its start on. Not by `fmt::Write`: there each write may fail for want of room, and the text is promised only
+// where it did not, but verdict and translate can't fail.
 ghost use Rattle.std.specs.Prelude.{◌+◌, ◌*◌, ◌≤◌, ◌∷◌, ◌++◌, length};
 ghost use Rattle.lines.specs.Puts.{Adds};
 ghost use Rattle.lines.specs.Text.{decimal_of, line_of};
 
-// What is written stands before `end`.
+// What is written stands before `end`. Each function asks for the room of its own lines: how much is left no invariant of the page could say.
 #[derive(Drop)]
 pub(crate) struct Page<'a> {
     pub(crate) out: &'a mut [u8],

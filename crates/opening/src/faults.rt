@@ -1,5 +1,5 @@
-// The tests of lines 3, 14 and 15, one for the three counts, and of lines 4 to 8, one function a line. docs/RULES.md, "Refusal list". Bytes and counts go
-// apart, as to the reading functions (table/src/read.rt).
+// The tests of lines 3, 14 and 15, one for the three counts, and of lines 4 to 8, one function a line. docs/RULES.md, "Refusal list". Bytes and
+// counts go apart: a struct of both is no plainer, since each clause has `self.entry.bytes.now` for `bytes.now`.
 ghost use Rattle.std.specs.Prelude.{◌≡◌, ℕ, ◌+◌, ◌≤◌, ◌<◌, eqb, length};
 ghost use Rattle.table.specs.First.{first_in};
 ghost use Rattle.table.specs.Inside.{RowInside, MarkInside};

@@ -16,6 +16,7 @@ fn counted(bytes: &[u8]) -> Result<Table, Refusal>
     if bytes.len() < 28 {
         return Err(Refusal::TooShort);
     }
+    // One kind is read (docs/RULES.md, "The table file"); an enum of one value would say no more than its number.
     if table::word(bytes, 0) != 1 {
         return Err(Refusal::WrongKind);
     }

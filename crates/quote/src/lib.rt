@@ -37,7 +37,7 @@ pub fn edge_count(n: usize, e: usize, m: usize) -> usize
     recorder::with_flag_and_bits(e, n + 2, m)
 }
 
-// The sheet of an accepted table.
+// The sheet of an accepted table. Bytes and counts go apart, here and in members.rt, as in opening/src/faults.rt.
 fn sheet_of(bytes: &[u8], t: Table) -> Sheet
     requires { LaidOut bytes.now t }
     ensures { result ≡ sheet_of bytes.now t.states t.edges t.sets }

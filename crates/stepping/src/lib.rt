@@ -7,7 +7,7 @@ ghost use Rattle.stepping.specs.Step.{record_fits, stepped_of};
 use recorder::Record;
 use table::Refusal;
 
-// Line 12 is not given, of n states and m sets: s and next are states, t is one or n for nothing, v has bits of the m sets alone.
+// Line 12 is not given: s and next are of the n states, t is one or n for nothing, v has bits of the m sets alone. It asks nothing else of a table.
 #[tactic(auto, unfolding(crate::specs::Step::record_fits))]
 fn fits(n: usize, m: usize, r: Record, next: usize) -> bool
     requires { m ≤ 4 }

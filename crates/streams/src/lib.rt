@@ -1,7 +1,7 @@
-// Reading a table from standard input and writing to standard output, for both programs. At most 4,449 bytes are read, one more than the longest table
-// has, so that a longer input is refused for its length and not cut to a table. The reader and the writers are the caller's. Of one whose bytes are
-// known it is proved which bytes are read and written; of the system's own streams no contract can say that. Here it is proved of each that the count
-// fits and that reading ends.
+// Reading a table from standard input and writing to standard output, for both programs. At most 4,449 bytes are read, one more than the longest
+// table has, so that a longer input is refused for its length and not cut to a table. The reader and the writers are the caller's. Of one whose bytes
+// are known it is proved which bytes are read and written; of the system's own streams no contract can say that. Here it is proved of each that the
+// count fits and that reading ends.
 #![tactic(auto)]
 
 ghost use Rattle.std.specs.Prelude.{◌≡◌, ◌≢◌, ◌⊎◌, length, take, OnOk, IfOk, IfErr};
@@ -76,8 +76,8 @@ fn tell<E: io::Write>(errors: &mut E, why: &[u8], reason: io::Error) -> io::Resu
     writeln!(errors, ": {reason}")
 }
 
-// Reads a table, and answers how many bytes came. Where that fails, the line `why` with the system's reason goes to `errors`; where that fails too,
-// there is nobody left to tell.
+// Reads a table into the program's buffer, which is not on the heap, and answers how many bytes came. Where that fails, the line `why` with the
+// system's reason goes to `errors`; where that fails too, there is nobody left to tell.
 pub fn read_table<R: io::Read, E: io::Write>(
     input: &mut R,
     errors: &mut E,

@@ -1,6 +1,7 @@
 // The reading functions: what stands at a place of the file. Each asks just that the place is inside; an accepted table's places are, by
-// the laws of proofs/Inside.antt. They take the bytes and the counts apart: a struct of both whose invariant says that the counts are the header's would
-// ask more than these functions of docs/PROMISES.md do, and one without it is no plainer, since each clause has `self.entry.bytes.now` for `bytes.now`.
+// the laws of proofs/Inside.antt. They take the bytes and the counts apart: a struct of both whose invariant says that the counts are the header's
+// would ask more than these functions of docs/PROMISES.md do, and one without it is no plainer, since each clause has `self.entry.bytes.now` for
+// `bytes.now`.
 ghost use Rattle.std.specs.Prelude.{◌≡◌, ◌+◌, ◌≤◌, ◌<◌, length};
 ghost use Rattle.table.specs.Layout.{word_at, states_of, row_start as rowStartOf, target as target_of, mark as mark_of};
 ghost use Rattle.table.specs.Inside.{RowInside, TargetInside, MarkInside};
@@ -72,7 +73,8 @@ pub fn fair(bytes: &[u8], t: Table, s: usize) -> usize
     usize::from(mark(bytes, t, s) / 4)
 }
 
-// s to s2 is an edge: s2 is a target in the row of s.
+// s to s2 is an edge: s2 is a target in the row of s. By `find`, as the tests of lines 7 and 8: its laws are of the first index that fits, and `any`
+// has others.
 pub fn has_edge(bytes: &[u8], t: Table, s: usize, s2: usize) -> bool
     requires well_formed { WellFormed bytes.now }
     requires states_value { (t.states ≡ states_of bytes.now) × (s < t.states) }

@@ -8,8 +8,8 @@ ghost use Rattle.translate.specs.Writes.{Writes};
 use std::io;
 use streams::Failed;
 
-// Reads a table and writes what is made of it. `run` of verdict makes the same calls. One function over a closure was tried: it has a `requires` over all
-// that the closure may answer, and is longer than the two.
+// Reads a table and writes what is made of it. `run` of verdict makes the same calls. One function over a closure was tried: it has a `requires` over
+// all that the closure may answer, and is longer than the two.
 fn run<R: io::Read, W: io::Write, E: io::Write>(
     input: &mut R,
     output: &mut W,

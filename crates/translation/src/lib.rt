@@ -1,5 +1,5 @@
-// The translated table. docs/RULES.md, "Translated table" and line 11 of "Refusal list". The rules stand in specs/. Each section has a loop over the slots of
-// its own: what the three have in common is `r.following` on the way, and a function over a closure for it would be no plainer.
+// The translated table. docs/RULES.md, "Translated table" and line 11 of "Refusal list". The rules stand in specs/. Each section has a loop over the
+// slots of its own: what the three have in common is `r.following` on the way, and a function over a closure for it would be no plainer.
 #![tactic(auto)]
 
 mod header;
@@ -11,7 +11,8 @@ ghost use Rattle.translation.specs.Translated.{TranslateSays};
 
 use table::Refusal;
 
-// Translates the table in the bytes into the output, where it has room, and answers how many bytes were written.
+// Translates the table in the bytes into the output, where it has room, and answers how many bytes were written. C lends the output, so the length
+// comes back beside it, and nothing is made on the heap.
 pub fn translate(bytes: &[u8], out: &mut [u8]) -> Result<usize, Refusal>
     ensures { TranslateSays bytes.now out.old result out.new }
 {

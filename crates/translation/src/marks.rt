@@ -1,4 +1,4 @@
-// The marks of the translated table: a byte for each slot.
+// The marks of the translated table: a byte for each slot. Bytes and counts go apart, as in opening/src/faults.rt.
 ghost use Rattle.std.specs.Prelude.{◌≡◌, length};
 ghost use Rattle.recorder.specs.Flag.{live_flag};
 ghost use Rattle.recorder.specs.Slots.{slot_of, InRange};

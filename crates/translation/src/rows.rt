@@ -1,4 +1,4 @@
-// The row starts of the translated table.
+// The row starts of the translated table. Bytes and counts go apart, as in opening/src/faults.rt.
 ghost use Rattle.std.specs.Prelude.{◌≡◌, suc, ◌*◌, length};
 ghost use Rattle.recorder.specs.Flag.{live_flag};
 ghost use Rattle.recorder.specs.Slots.{slot_of, InRange};

@@ -1,4 +1,4 @@
-// The targets of the translated table: row after row, what each slot leads to.
+// The targets of the translated table: row after row, what each slot leads to. Bytes and counts go apart, as in opening/src/faults.rt.
 ghost use Rattle.std.specs.Prelude.{◌≡◌, ◌+◌, ◌*◌, ◌≤◌, length};
 ghost use Rattle.recorder.specs.Flag.{live_flag};
 ghost use Rattle.recorder.specs.Slots.{slot_of, InRange};
@@ -12,7 +12,7 @@ use recorder::Record;
 use table::Table;
 
 // Writes the row of the slot of the record r at index `at`: along each edge of its state the step that saves, and where nothing is saved the other
-// one after it. Answers the index after the row.
+// one after it. Answers the index after the row, where the next one begins: no pieces of one size, since a row has one or two targets an edge.
 fn write_row(bytes: &[u8], t: Table, part: &mut [u8], at: usize, r: Record) -> usize
     requires asks { Asks bytes.now t }
     requires r_in { InRange t.states t.sets r }

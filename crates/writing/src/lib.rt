@@ -11,6 +11,7 @@ pub fn put(part: &mut [u8], at: usize, x: usize)
     requires { at + 4 ≤ length part.old }
     ensures { part.new ≡ placed at (little_endian (x ∷ [])) part.old }
 {
+    // The remainder is below 2^32; `TryFrom` would have an arm that is never reached.
     part[at..at + 4].copy_from_slice(&((x % 4294967296) as u32).to_le_bytes());
 }
 
