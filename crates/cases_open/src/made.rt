@@ -16,7 +16,8 @@ pub(crate) enum Made<'a> {
     With(&'a [Change]),
     // The table of a drawing and of m sets.
     Drawn(&'a str, u16),
-    // A good table of n states, e edges and m sets, or it would be if these were allowed.
+    // A good table of n states, e edges and m sets, or it would be if these were allowed. They have no names here: a row of data reads best with the
+    // numbers alone.
     Counted(u16, u16, u16),
 }
 
@@ -35,7 +36,7 @@ pub(crate) enum Change {
     Mark(u8, u8),
 }
 
-// The first `len` bytes are the file.
+// A buffer and a length, as these programs use no heap. The first `len` bytes are the file.
 #[derive(Drop)]
 pub(crate) struct File {
     bytes: [u8; ROOM],
@@ -48,9 +49,7 @@ impl File {
             bytes: [0; ROOM],
             len: 0,
         };
-        for x in bytes {
-            file.put_byte(*x);
-        }
+        file.put_bytes(bytes);
         file
     }
 
@@ -67,31 +66,27 @@ impl File {
         &self.bytes[..self.len.min(ROOM)]
     }
 
-    // One more byte, where there is room.
-    fn put_byte(&mut self, x: u8) {
-        if self.len < ROOM {
-            self.bytes[self.len] = x;
-            self.len += 1;
+    // These bytes at index `at`, where there is room.
+    fn set_bytes(&mut self, at: usize, bytes: &[u8]) {
+        let end = at.saturating_add(bytes.len());
+        if let Some(part) = self.bytes.get_mut(at..end) {
+            part.copy_from_slice(bytes);
         }
     }
 
-    // One more number of 32 bits, little-endian.
-    fn put(&mut self, x: usize) {
-        for x in x.to_le_bytes().into_iter().take(4) {
-            self.put_byte(x);
-        }
-    }
-
-    fn set_byte(&mut self, at: usize, x: u8) {
-        if let Some(byte) = self.bytes.get_mut(at) {
-            *byte = x;
-        }
-    }
-
+    // A number of 32 bits, little-endian.
     fn set(&mut self, at: usize, x: usize) {
-        for (at, x) in (at..).zip(x.to_le_bytes()).take(4) {
-            self.set_byte(at, x);
-        }
+        self.set_bytes(at, &x.to_le_bytes()[..4]);
+    }
+
+    // These bytes after the file's own, which grows by them.
+    fn put_bytes(&mut self, bytes: &[u8]) {
+        self.set_bytes(self.len, bytes);
+        self.len = self.len.saturating_add(bytes.len());
+    }
+
+    fn put(&mut self, x: usize) {
+        self.put_bytes(&x.to_le_bytes()[..4]);
     }
 
     // The places of row starts, targets and marks are those of table a.
@@ -106,7 +101,7 @@ impl File {
             Change::Marks(x) => self.set(24, x),
             Change::Row(s, x) => self.set(28 + 4 * usize::from(s), x),
             Change::Target(i, x) => self.set(48 + 4 * usize::from(i), x),
-            Change::Mark(s, x) => self.set_byte(80 + usize::from(s), x),
+            Change::Mark(s, x) => self.set_bytes(80 + usize::from(s), &[x]),
         }
     }
 }
@@ -144,7 +139,7 @@ fn drawn(drawing: &str, m: u16) -> File {
     let marks = file.len;
     file.change(Change::Marks(marks));
     for word in drawing.split(' ') {
-        file.put_byte(word.bytes().fold(0, |marks, c| marks | mark_of(c)));
+        file.put_bytes(&[word.bytes().fold(0, |marks, c| marks | mark_of(c))]);
     }
     file
 }
@@ -178,7 +173,7 @@ fn counted(n: u16, e: u16, m: u16) -> File {
     for s in 0..n {
         // The four sets' bits, but not those from the lower of s and m on.
         let sets = 60 & !(60 << s.min(m).min(4));
-        file.put_byte(if s == 0 { 1 } else { sets });
+        file.put_bytes(&[if s == 0 { 1 } else { sets }]);
     }
     file
 }

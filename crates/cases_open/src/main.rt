@@ -13,7 +13,7 @@ use quote::Sheet;
 use std::{fmt, io};
 use table::{Refusal, Table};
 
-// What is printed as the sheet of a refused table.
+// What is printed as the sheet of a refused table, board and all. docs/RULES.md: "A quote that is refused is all zeros".
 const ZEROS: Sheet = Sheet {
     slots: 0,
     edges: 0,
@@ -75,6 +75,7 @@ fn quote_each(rt: &impl Print, cases: &[Case]) -> io::Result<()> {
             s.edges,
             s.bytes
         )?;
+        // 8 for none, as docs/RULES.md, "Quote sheet", numbers the boards and the C interface tells them.
         let board = s.board.unwrap_or(8);
         println!(rt; "board {board}, members{}", Numbers(&s.members))?;
     }

@@ -10,11 +10,8 @@ use samples::{
     GOAL_ON_THE_WAY, H, I, J, K, L, LATER_START, PETALS, RING, RING_OF_SETS,
     SET_ON_THE_TAIL as SET_ON_TAIL, TAIL, TWO_STARTS, TWO_WAYS,
 };
-use show::{RISING, case, line};
+use show::{Case, Lent, RISING, Rest, line_of};
 use std::io;
-
-// A name, a table, and how many words the workspace and the report have.
-type Case<'a> = (&'a str, &'a [u8], usize, usize);
 
 // The twelve tables of docs/RULES.md, "Tables by hand", with 2S and S words. Each line has the whole report.
 const BY_HAND: &[Case] = &[
@@ -80,10 +77,10 @@ const SLIPS: &[Case] = &[
     ("four sets, back to 0 between them", &PETALS, 1920, 960),
 ];
 
-// Runs the cases, each in buffers of its own. With `whole` the lines have the whole report.
-fn each(rt: &impl Print, cases: &[Case], whole: bool) -> io::Result<()> {
-    for &(name, table, w, r) in cases {
-        case(rt, name, table, w, r, RISING, whole)?;
+// Runs the cases, each in buffers of its own.
+fn each(rt: &impl Print, cases: &[Case], rest: Rest) -> io::Result<()> {
+    for case in cases {
+        line_of(rt, *case, RISING, rest)?;
     }
     Ok(())
 }
@@ -95,10 +92,9 @@ fn in_turn(
     work: &mut [u32],
     report: &mut [u32],
 ) -> io::Result<()> {
-    RISING.fill(work);
-    RISING.fill(report);
+    let mut lent = Lent::filled(work, report, RISING);
     for &(name, table) in cases {
-        line(rt, name, table, work, report, RISING, true)?;
+        lent.line(rt, name, table, Rest::Whole)?;
     }
     Ok(())
 }
@@ -119,7 +115,7 @@ fn over_one_word(rt: &impl Print) -> io::Result<()> {
             first: word,
             step: 0,
         };
-        case(rt, name, table, w, r, throughout, false)?;
+        line_of(rt, (name, table, w, r), throughout, Rest::Kept)?;
     }
     Ok(())
 }
@@ -135,12 +131,12 @@ fn ring(rt: &impl Print) -> io::Result<()> {
         ("ring of 64", &RING, 16640, 8319),
         ("ring of 64, goal at the last", &goal, 16640, 8320),
     ];
-    each(rt, cases, false)
+    each(rt, cases, Rest::Kept)
 }
 
 fn main(rt: HostRuntime) -> io::Result<()> {
-    each(&rt, BY_HAND, true)?;
-    each(&rt, LENGTHS, false)?;
+    each(&rt, BY_HAND, Rest::Whole)?;
+    each(&rt, LENGTHS, Rest::Kept)?;
     // The second finds no lasso, and leaves the report of the first.
     in_turn(
         &rt,
@@ -159,9 +155,9 @@ fn main(rt: HostRuntime) -> io::Result<()> {
     // With as many words as tables a and b need; with fewer, and with none.
     for (w, r) in [(80, 40), (79, 39), (0, 0)] {
         for &(name, table) in cases::REFUSED {
-            case(&rt, name, table, w, r, RISING, false)?;
+            line_of(&rt, (name, table, w, r), RISING, Rest::Kept)?;
         }
     }
-    each(&rt, SLIPS, false)?;
+    each(&rt, SLIPS, Rest::Kept)?;
     ring(&rt)
 }

@@ -10,59 +10,90 @@ pub(crate) const RISING: Pattern<u32> = Pattern {
     step: 1,
 };
 
-// Searches in these buffers, which had the pattern p at first, and prints the line: the zeros that the workspace begins with and how many words past
-// them are as the pattern has them, and, past the run, the whole report or how many of its words are as the pattern has them.
-pub(crate) fn line(
-    rt: &impl Print,
-    name: &str,
-    table: &[u8],
-    work: &mut [u32],
-    report: &mut [u32],
-    p: Pattern<u32>,
-    whole: bool,
-) -> io::Result<()> {
-    print!(rt; "{name}, {} and {} words: ", work.len(), report.len())?;
-    let taken = match search::search(table, work, report) {
-        Ok(Some(Lasso { k, l })) => {
-            // A run of length k has k + 1 states.
-            let taken = k.saturating_add(1).min(report.len());
-            print!(rt; "lasso {k} {l}, run{}", Numbers(&report[..taken]))?;
-            taken
+// A name, a table, and how many words the workspace and the report have.
+pub(crate) type Case<'a> = (&'a str, &'a [u8], usize, usize);
+
+// What a line says of the report past the run: how many of its words are as the pattern has them, or all of it.
+#[derive(Clone, Copy)]
+pub(crate) enum Rest {
+    Kept,
+    Whole,
+}
+
+// The two buffers of a search, and the pattern that they had at first.
+#[derive(Drop)]
+pub(crate) struct Lent<'a> {
+    work: &'a mut [u32],
+    report: &'a mut [u32],
+    before: Pattern<u32>,
+}
+
+impl<'a> Lent<'a> {
+    pub(crate) fn filled(
+        work: &'a mut [u32],
+        report: &'a mut [u32],
+        before: Pattern<u32>,
+    ) -> Lent<'a> {
+        before.fill(work);
+        before.fill(report);
+        Lent {
+            work,
+            report,
+            before,
         }
-        Ok(None) => {
-            print!(rt; "holds")?;
-            0
+    }
+
+    // Searches in them, and prints the line: after the answer, the zeros that the workspace begins with, how many words past them are as the
+    // pattern has them, and the rest of the report.
+    pub(crate) fn line(
+        &mut self,
+        rt: &impl Print,
+        name: &str,
+        table: &[u8],
+        rest: Rest,
+    ) -> io::Result<()> {
+        let (w, r) = (self.work.len(), self.report.len());
+        print!(rt; "{name}, {w} and {r} words: ")?;
+        let taken = match search::search(table, self.work, self.report) {
+            Ok(Some(Lasso { k, l })) => {
+                // A run of length k has k + 1 states.
+                let taken = k.saturating_add(1).min(r);
+                print!(rt; "lasso {k} {l}, run{}", Numbers(&self.report[..taken]))?;
+                taken
+            }
+            Ok(None) => {
+                print!(rt; "holds")?;
+                0
+            }
+            Err(why) => {
+                print!(rt; "{}", Refused(why))?;
+                0
+            }
+        };
+        let zeros = self.work.iter().take_while(|x| **x == 0).count();
+        let kept = self.before.kept(self.work, zeros);
+        print!(rt; ", zeros {zeros} kept {kept}")?;
+        match rest {
+            Rest::Kept => {
+                let kept = self.before.kept(self.report, taken);
+                println!(rt; ", report kept {kept}")
+            }
+            Rest::Whole => println!(rt; ", rest of the report{}", Numbers(&self.report[taken..])),
         }
-        Err(why) => {
-            print!(rt; "{}", Refused(why))?;
-            0
-        }
-    };
-    let zeros = work.iter().take_while(|x| **x == 0).count();
-    print!(rt; ", zeros {zeros} kept {}", p.kept(work, zeros))?;
-    if whole {
-        println!(rt; ", rest of the report{}", Numbers(&report[taken..]))
-    } else {
-        println!(rt; ", report kept {}", p.kept(report, taken))
     }
 }
 
-// The same in buffers of its own, with w workspace words and r report words; the arrays are that long.
-pub(crate) fn case(
+// The line of a case, in buffers of its own with w and r words; the arrays are that long.
+pub(crate) fn line_of(
     rt: &impl Print,
-    name: &str,
-    table: &[u8],
-    w: usize,
-    r: usize,
-    p: Pattern<u32>,
-    whole: bool,
+    (name, table, w, r): Case,
+    before: Pattern<u32>,
+    rest: Rest,
 ) -> io::Result<()> {
     let mut work = [0; 16740];
     let mut report = [0; 8420];
     if let (Some(work), Some(report)) = (work.get_mut(..w), report.get_mut(..r)) {
-        p.fill(work);
-        p.fill(report);
-        line(rt, name, table, work, report, p, whole)?;
+        Lent::filled(work, report, before).line(rt, name, table, rest)?;
     }
     Ok(())
 }

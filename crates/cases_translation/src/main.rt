@@ -7,11 +7,8 @@ use samples::{
     A, ALL_IN_ONE, B, C, D, E, F, G, GOAL_AT_ONE_START, H, I, J, K, L, NINE, PETALS, RING,
     RING_OF_SETS, SET_ON_THE_TAIL,
 };
-use show::{BEFORE, End, case, line};
+use show::{BEFORE, Case, End, line, line_of};
 use std::io;
-
-// A name, a table and the length of the output.
-type Case<'a> = (&'a str, &'a [u8], usize);
 
 // The twelve tables of docs/RULES.md, "Tables by hand", each with an output of exactly its size.
 const BY_HAND: &[Case] = &[
@@ -69,8 +66,8 @@ const SETS: &[Case] = &[
 
 // Runs the cases, each in the first bytes of the room.
 fn each(rt: &impl Print, cases: &[Case], room: &mut [u8], end: End) -> io::Result<()> {
-    for &(name, table, n) in cases {
-        case(rt, name, table, room, n, end)?;
+    for case in cases {
+        line_of(rt, *case, room, end)?;
     }
     Ok(())
 }
@@ -115,7 +112,7 @@ fn run(rt: &impl Print, room: &mut [u8; 603200]) -> io::Result<()> {
     // With as many bytes as table a needs; with one fewer, and with none.
     for n in [616, 615, 0] {
         for &(name, table) in cases::REFUSED {
-            case(rt, name, table, room, n, End::Kept)?;
+            line_of(rt, (name, table, n), room, End::Kept)?;
         }
     }
     each(rt, TWO_STARTS, room, End::Whole)?;

@@ -8,7 +8,11 @@ pub(crate) const BEFORE: Pattern<u8> = Pattern {
     step: 7,
 };
 
+// A name, a table and the length of the output.
+pub(crate) type Case<'a> = (&'a str, &'a [u8], usize);
+
 // What a line ends with: how many bytes past the written ones are as before; that, and two sums; or all the bytes.
+// A caller passes it down, as all three are printed after the translation, which is called in one place.
 #[derive(Clone, Copy)]
 pub(crate) enum End {
     Kept,
@@ -54,13 +58,11 @@ pub(crate) fn line(
     }
 }
 
-// The same with the first n bytes of the room, which is that long, and BEFORE in them.
-pub(crate) fn case(
+// The line of a case, in the first n bytes of the room, which is that long, with BEFORE in them.
+pub(crate) fn line_of(
     rt: &impl Print,
-    name: &str,
-    table: &[u8],
+    (name, table, n): Case,
     room: &mut [u8],
-    n: usize,
     end: End,
 ) -> io::Result<()> {
     if let Some(out) = room.get_mut(..n) {
