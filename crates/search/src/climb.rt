@@ -1,5 +1,4 @@
-// Following the origins from an index of the queue back to a start: how long the path to that index is, and the states on it. The loops go from origin to
-// origin and count no index, so they are no `for`.
+// Following the origins from an index of the queue back to a start: how long the path to that index is, and the states on it.
 ghost use Rattle.std.specs.Prelude.{◌≡◌, ◌++◌, ℕ, ◌≤◌, ◌<◌, length, drop};
 ghost use Rattle.recorder.specs.Slots.{slot_count};
 ghost use Rattle.search.specs.Climb.{Climbs, path_by, label_of};
@@ -14,6 +13,7 @@ pub(crate) fn path_length(work: &[u32], slots: usize, head: usize) -> usize
 {
     let mut i = head;
     let mut len = 0;
+    // It goes from origin to origin and counts no index, so it is no `for`.
     loop {
         len += 1;
         let x = writing::at(work, slots + i);
@@ -43,19 +43,16 @@ pub(crate) fn write_path(
     ensures report_after { report.new ≡ halves (path_by (label_of n m) slots work.now head) ++ drop len report.old }
 {
     let mut i = head;
-    let mut left = len;
     let mut unsaved = 0;
-    loop {
-        left -= 1;
+    for left in (0..len).rev() {
         let x = writing::at(work, slots + i);
         let r = Record::of_slot(x, n, m);
         // A state is below 64; `TryFrom` would have an arm that is never reached.
         report[left] = r.s as u32;
         unsaved += usize::from(r.t == n);
         let origin = writing::at(work, x);
-        if origin < 2 {
-            return unsaved;
-        }
-        i = origin - 2;
+        // The last turn comes to a start, whose origin is 1, and i is not read again.
+        i = origin.saturating_sub(2);
     }
+    unsaved
 }

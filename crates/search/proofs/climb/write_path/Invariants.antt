@@ -1,9 +1,6 @@
--- What the loop keeps.
+-- What the loop keeps while `left` words are still to be written.
 use Rattle.search.proofs.Writing.{Writing}
 use Rattle.search.proofs.climb.write_path.Given as goal
 
-abbrev pub invariant-loop-slots : goal.invariant-loop-slots
-invariant-loop-slots l = Writing l.work l.initial.report l.slots l.n l.m l.head l.len l.i l.report l.left l.unsaved
-
-abbrev pub decreases-loop-slots : goal.decreases-loop-slots
-decreases-loop-slots l = l.i
+abbrev pub invariant-loop-left : goal.invariant-loop-left
+invariant-loop-left l = Writing l.work l.initial.report l.slots l.n l.m l.head l.len l.i l.report l.left l.unsaved
