@@ -2,7 +2,7 @@
 -- proofs/Writing.antt.
 use Rattle.std.proofs.Common.{arith}
 use Rattle.search.proofs.Writing.{writing_begins, state_small, writing_on, counts_path, writes_path}
-use Rattle.search.proofs.climb.write_path.Goals as goal
+use Rattle.search.proofs.queue.Queue.write_path.Goals as goal
 
 pub loop-left-init : goal.loop-left-init
 loop-left-init c = writing_begins c.requires.climbs c.requires.len_value
