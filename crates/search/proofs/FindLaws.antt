@@ -105,29 +105,31 @@ module _ {b : List ℕ} {t : Table} {S : ℕ} {work report : List ℕ} (a : Find
   find_holds k d back = let k' = seen_as same refl (sym back) k in (says_holds report a.formed k'.seen, clears_all k' d)
 
   -- ---- head leads to a bad slot
-  module _ {w : List ℕ} {head : ℕ} (k : ScanSays live_flag b S' u (Some head) w) {w' : List ℕ} where
-    seen : w' ≡ w → ScanSays live_flag b S u (Some head) w'
-    seen back = seen_as same refl (sym back) k
+  module _ {w : List ℕ} {head : ℕ} (k : ScanSays live_flag b S' u (Some head) w) {S'' : ℕ} (still : S'' ≡ S') where
+    stopped : (y : ℕ) × Stopped live_flag b S'' w head y
+    stopped = (seen_as (sym still) refl refl k).seen
 
     -- the path to head can be climbed
-    pub path_climbs : w' ≡ w → Climbs w' S head
-    path_climbs back = stopped_climbs (seen back).seen.1
+    pub path_climbs : Climbs w S'' head
+    path_climbs = stopped_climbs stopped.1
 
-    told : w' ≡ w → Told live_flag b (path_by (label_of t.states t.sets) S w' head)
-    told back = stopped_tells live_flag b t.states t.sets S w' head _ a.formed a.laid.states_are a.laid.sets_are (seen back).seen.1
+    told : Told live_flag b (path_by (label_of t.states t.sets) S'' w head)
+    told = stopped_tells live_flag b t.states t.sets S'' w head _ a.formed a.laid.states_are a.laid.sets_are stopped.1
 
     -- it has len records
-    module _ {len : ℕ} (is : (label : ℕ → ℕ) → len ≡ length (path_by label S w' head)) where
-      pub len_fits : w' ≡ w → (len ≡ length (path_by (label_of t.states t.sets) S w' head)) × (len ≤ length report)
-      len_fits back = (is _, omega (arith, is (label_of t.states t.sets), path_to (label_of t.states t.sets) S w' head (path_climbs back), a.report_room))
+    module _ {len : ℕ} (is : (label : ℕ → ℕ) → len ≡ length (path_by label S'' w head)) where
+      pub len_fits : (len ≡ length (path_by (label_of t.states t.sets) S'' w head)) × (len ≤ length report)
+      len_fits =
+          let label = label_of t.states t.sets in
+          (is label, omega (arith, is label, path_to label S'' w head path_climbs, a.report_room, same, still))
 
-      pub len_some : w' ≡ w → 0 < len
-      len_some back = let t' = told back in omega (arith, is (label_of t.states t.sets), t'.reports.size, t'.least.is.loop.here)
+      pub len_some : 0 < len
+      len_some = omega (arith, is (label_of t.states t.sets), told.reports.size, told.least.is.loop.here)
 
-      module _ {n : ℕ} (d : n ≡ odds (path_by (label_of t.states t.sets) S w' head)) where
-        pub odds_some : w' ≡ w → 0 < n
-        odds_some back = omega (arith, (told back).reports.place)
+      module _ {n : ℕ} (d : n ≡ odds (path_by (label_of t.states t.sets) S'' w head)) where
+        pub odds_some : 0 < n
+        odds_some = omega (arith, told.reports.place)
 
-        pub find_lasso : {report' z : List ℕ} → report' ≡ halves (path_by (label_of t.states t.sets) S w' head) ++ drop len report → z ≡ cleared (2 * S) w'
-            → w' ≡ w → FindSays b work report (Some (record { k = len - 1; l = n - 1 })) z report'
-        find_lasso r c back = (says_lasso report _ (told back) (is _) d r, clears_all (seen back) c)
+        pub find_lasso : {report' w' z : List ℕ} → report' ≡ halves (path_by (label_of t.states t.sets) S'' w head) ++ drop len report
+            → z ≡ cleared (2 * S) w' → w' ≡ w → FindSays b work report (Some (record { k = len - 1; l = n - 1 })) z report'
+        find_lasso r c back = (says_lasso report _ told (is _) d r, clears_all (seen_as same refl (sym back) k) c)

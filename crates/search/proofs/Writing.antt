@@ -1,8 +1,9 @@
--- Writing the states of the path that the climb passes, the last one first: what holds at each letter (`Writing`), and the laws of one turn, over plain
+-- Writing the states of the path that the climb passes, the last one first: what holds at each turn (`Writing`), and the laws of one turn, over plain
 -- values. Assumes nothing.
 use Rattle.std.specs.Prelude.{◌≡◌, refl, Bool, true, false, cond, List, [], ◌∷◌, ◌++◌, ℕ, ◌+◌, ◌-◌, ◌/◌, ◌%◌, ◌≤◌, ◌<◌, eqb, length, set, take, drop}
 use Rattle.std.proofs.Common.{sym, ap, ◌∙◌, arith, length-set}
 use mir.Val.{bool_byte}
+use Rattle.std.proofs.Math.Decide.{dec_lt}
 use Rattle.std.proofs.Math.ListN.{take-append-drop}
 use Rattle.order.specs.Word.{Word}
 use Rattle.recorder.specs.Slots.{record_of_slot, slot_count}
@@ -24,16 +25,32 @@ pub record Written (report₀ : List ℕ) (len : ℕ) (done : Word) (report : Li
   pub unsaved_to : unsaved + left ≤ len
   pub same_length : length report ≡ length report₀
 
--- The climb stands at i, and the letters passed are written.
+-- So many words are left to be written.
 pub record Writing (w report₀ : List ℕ) (S n m head len i : ℕ) (report : List ℕ) (left unsaved : ℕ) : Type 0 where
+  -- the climb never rises
   pub down : i ≤ head
+  -- the letters passed
   pub done : Word
-  pub passed : Climbing (label_of n m) S w head i done
   pub written : Written report₀ len done report left unsaved
+  -- while words are left, the climb stands at i
+  pub passed : 0 < left → Climbing (label_of n m) S w head i done
+  -- when none is left, the letters passed are the path
+  pub whole : left ≡ 0 → path_by (label_of n m) S w head ≡ done
+
+-- ---- no letter is written yet
+written_none : (report₀ : List ℕ) (len : ℕ) → Written report₀ len [] report₀ len 0
+unfolding halves odds
+written_none report₀ len = record {
+  left_is = omega arith;
+  report_is = sym (take-append-drop len report₀);
+  unsaved_is = refl;
+  unsaved_to = omega arith;
+  same_length = refl;
+}
 
 -- ---- one more letter, with its state s and its count u
-written_on : (report₀ : List ℕ) (len : ℕ) (done : Word) (report : List ℕ) (left unsaved a s u : ℕ) → Written report₀ len done report left unsaved → len ≤ length report₀ → 0 < left
-    → a / 2 ≡ s → a % 2 ≡ u → Written report₀ len (a ∷ done) (set report (left - 1) s) (left - 1) (unsaved + u)
+written_on : (report₀ : List ℕ) (len : ℕ) (done : Word) (report : List ℕ) (left unsaved a s u : ℕ) → Written report₀ len done report left unsaved
+    → len ≤ length report₀ → 0 < left → a / 2 ≡ s → a % 2 ≡ u → Written report₀ len (a ∷ done) (set report (left - 1) s) (left - 1) (unsaved + u)
 unfolding halves odds
 written_on report₀ len done report left unsaved a s u k h p es eu = record {
   left_is = omega arith;
@@ -51,22 +68,32 @@ byte_is_bit true = refl
 byte_is_bit false = refl
 
 -- ---- along the code, where the path to head has len letters
-module _ {w report₀ : List ℕ} {S n m head len : ℕ} (k : Climbs w S head) (whole : (len ≡ length (path_by (label_of n m) S w head)) × (len ≤ length report₀)) where
+module _ {w report₀ : List ℕ} {S n m head len : ℕ} (k : Climbs w S head)
+    (size : (len ≡ length (path_by (label_of n m) S w head)) × (len ≤ length report₀)) where
   pub writing_begins : Writing w report₀ S n m head len head report₀ len 0
-  unfolding halves odds
-  writing_begins = record {
-    down = omega arith;
-    done = [];
-    passed = climb_begins _ _ _ _;
-    written = record { left_is = omega arith; report_is = sym (take-append-drop len report₀); unsaved_is = refl; unsaved_to = omega arith; same_length = refl };
-  }
+  writing_begins =
+      let begins = climb_begins (label_of n m) S w head in
+      record {
+        down = omega arith;
+        done = [];
+        written = written_none report₀ len;
+        passed = λ p. begins;
+        whole = λ z. absurd (omega (arith, z, climb_left k head (omega arith) refl refl begins, size.0));
+      }
 
   module _ {i : ℕ} {report : List ℕ} {left unsaved : ℕ} (g : Writing w report₀ S n m head len i report left unsaved) where
-    -- a word is left for the letter at i
-    pub some_left : 0 < left
-    some_left = omega (arith, climb_left k i g.down refl refl g.passed, whole.0, g.written.left_is)
+    -- at the end the letters written are the path
+    module _ (z : left ≡ 0) where
+      pub counts_path : unsaved ≡ odds (path_by (label_of n m) S w head)
+      counts_path = g.written.unsaved_is ∙ ap odds (sym (g.whole z))
 
-    module _ {x : ℕ} {r : Record} (slot : x ≡ slot_at S w i) (is : r ≡ record_of_slot n m x) where
+      pub writes_path : report ≡ halves (path_by (label_of n m) S w head) ++ drop len report₀
+      writes_path =
+          g.written.report_is ∙ ap (λ (j : ℕ). take j report₀ ++ (halves g.done ++ drop len report₀)) z
+          ∙ ap (λ (v : Word). halves v ++ drop len report₀) (sym (g.whole z))
+
+    -- a word is left for the letter at i
+    module _ (p : 0 < left) {x : ℕ} {r : Record} (slot : x ≡ slot_at S w i) (is : r ≡ record_of_slot n m x) where
       -- whose state is a state
       pub state_small : S ≡ slot_count n m → r.s < n
       state_small e =
@@ -74,37 +101,51 @@ module _ {w report₀ : List ℕ} {S n m head len : ℕ} (k : Climbs w S head) (
           omega (arith, (record_in n m x x_in).s_in, ap (λ (r : Record). r.s) is)
 
       module _ {u : ℕ} (count : u ≡ bool_byte (eqb r.t n)) where
+        abbrev passed_on : Word
+        passed_on = label_of n m (slot_at S w i) ∷ g.done
+
         -- and is written there
-        letter_written : Written report₀ len (label_of n m (slot_at S w i) ∷ g.done) (set report (left - 1) r.s) (left - 1) (unsaved + u)
+        letter_written : Written report₀ len passed_on (set report (left - 1) r.s) (left - 1) (unsaved + u)
         letter_written =
             let y = record_of_slot n m (slot_at S w i) in
             let same : r ≡ y = is ∙ ap (record_of_slot n m) slot in
             let s_is = number_half y.s (eqb y.t n) ∙ ap (λ (r : Record). r.s) (sym same) in
             let u_is = number_odd y.s (eqb y.t n) ∙ byte_is_bit (eqb y.t n) ∙ ap (λ (r : Record). bool_byte (eqb r.t n)) (sym same) ∙ sym count in
-            written_on report₀ len g.done report left unsaved (label_of n m (slot_at S w i)) r.s u g.written whole.1 some_left s_is u_is
+            written_on report₀ len g.done report left unsaved (label_of n m (slot_at S w i)) r.s u g.written size.1 p s_is u_is
 
         module _ {o : ℕ} (origin : o ≡ origin_at w x) where
-          pub writing_down : 2 ≤ o → o - 2 < i
-          writing_down h = climb_down k i g.down slot origin h
+          -- at a start the climb ends, and no word is left
+          ends : o < 2 → (path_by (label_of n m) S w head ≡ passed_on) × (left - 1 ≡ 0)
+          ends h =
+              let e = climb_ends k i g.down slot origin (g.passed p) h in
+              (e, omega (arith, letter_written.left_is, size.0, ap length e))
 
-          pub writing_on : 2 ≤ o → Writing w report₀ S n m head len (o - 2) (set report (left - 1) r.s) (left - 1) (unsaved + u)
-          writing_on h = record {
-            down = omega (arith, writing_down h, g.down);
-            done = label_of n m (slot_at S w i) ∷ g.done;
-            passed = climb_goes_on k i g.down slot origin g.passed h;
-            written = letter_written;
-          }
+          -- at another record it goes on, and a word is left
+          goes_on : 2 ≤ o → (o - 2 ≤ head) × Climbing (label_of n m) S w head (o - 2) passed_on × (0 < left - 1)
+          goes_on h =
+              let l : o - 2 ≤ head = omega (arith, climb_down k i g.down slot origin h, g.down) in
+              let c = climb_goes_on k i g.down slot origin (g.passed p) h in
+              (l, c, omega (arith, letter_written.left_is, climb_left k (o - 2) l refl refl c, size.0))
 
-          -- at a start the letters written are the path
-          module _ (h : o < 2) where
-            is_path : path_by (label_of n m) S w head ≡ label_of n m (slot_at S w i) ∷ g.done
-            is_path = climb_ends k i g.down slot origin g.passed h
-
-            pub counts_path : unsaved + u ≡ odds (path_by (label_of n m) S w head)
-            counts_path = letter_written.unsaved_is ∙ ap odds (sym is_path)
-
-            pub writes_path : set report (left - 1) r.s ≡ halves (path_by (label_of n m) S w head) ++ drop len report₀
-            writes_path =
-                let z : left - 1 ≡ 0 = omega (arith, letter_written.left_is, whole.0, ap length is_path) in
-                letter_written.report_is ∙ ap (λ (j : ℕ). take j report₀ ++ (halves (label_of n m (slot_at S w i) ∷ g.done) ++ drop len report₀)) z
-                ∙ ap (λ (v : Word). halves v ++ drop len report₀) (sym is_path)
+          pub writing_on : Writing w report₀ S n m head len (o - 2) (set report (left - 1) r.s) (left - 1) (unsaved + u)
+          writing_on = go (dec_lt o 2)
+            where
+              go : Dec (o < 2) → Writing w report₀ S n m head len (o - 2) (set report (left - 1) r.s) (left - 1) (unsaved + u)
+              go (yes h) =
+                  let (e, z) = ends h in
+                  record {
+                    down = omega arith;
+                    done = passed_on;
+                    written = letter_written;
+                    passed = λ q. absurd (omega (arith, q, z));
+                    whole = λ z. e;
+                  }
+              go (no h) =
+                  let (l, c, q) = goes_on (omega arith) in
+                  record {
+                    down = l;
+                    done = passed_on;
+                    written = letter_written;
+                    passed = λ q. c;
+                    whole = λ z. absurd (omega (arith, q, z));
+                  }

@@ -30,8 +30,8 @@ fn find(bytes: &[u8], t: Table, work: &mut [u32], report: &mut [u32], slots: usi
         writing::clear(work, 2 * slots);
         return None;
     };
-    let len = climb::path_length(work, slots, head);
-    let unsaved = climb::write_path(work, report, slots, t.states, t.sets, head, len);
+    let len = queue.path_length(head);
+    let unsaved = queue.write_path(report, t, head, len);
     writing::clear(work, 2 * slots);
     Some(Lasso {
         k: len - 1,

@@ -7,21 +7,39 @@ pub returns-in_default : goal.returns-in_default
 returns-in_default c = find_holds c.requires c.clear.ensures c.queue_starts-queue.ensures.says c.queue_starts-queue.ensures.slots c.in_default.ensures.says c.clear-in_default.ensures (search rules)
 
 pub path_length-len-requires : goal.path_length-len-requires
-path_length-len-requires c = path_climbs c.requires c.clear.ensures c.queue_starts-queue.ensures.says c.queue_starts-queue.ensures.slots c.in-Some.ensures.says (search rules)
+path_length-len-requires c =
+    let q = c.queue_starts-queue.ensures in
+    let k = c.in-Some.ensures in
+    path_climbs c.requires c.clear.ensures q.says q.slots k.says k.same.slots
 
 pub write_path-unsaved-requires-clause-climbs : goal.write_path-unsaved-requires-clause-climbs
-write_path-unsaved-requires-clause-climbs c = path_climbs c.requires c.clear.ensures c.queue_starts-queue.ensures.says c.queue_starts-queue.ensures.slots c.in-Some.ensures.says (search rules)
+write_path-unsaved-requires-clause-climbs c =
+    let q = c.queue_starts-queue.ensures in
+    let k = c.in-Some.ensures in
+    path_climbs c.requires c.clear.ensures q.says q.slots k.says k.same.slots
 
 pub write_path-unsaved-requires-clause-len_value : goal.write_path-unsaved-requires-clause-len_value
-write_path-unsaved-requires-clause-len_value c = len_fits c.requires c.clear.ensures c.queue_starts-queue.ensures.says c.queue_starts-queue.ensures.slots c.in-Some.ensures.says c.path_length-len.ensures (search rules)
+write_path-unsaved-requires-clause-len_value c =
+    let q = c.queue_starts-queue.ensures in
+    let k = c.in-Some.ensures in
+    len_fits c.requires c.clear.ensures q.says q.slots k.says k.same.slots c.path_length-len.ensures
 
 pub overflow_sub-result : goal.overflow_sub-result
-overflow_sub-result c = len_some c.requires c.clear.ensures c.queue_starts-queue.ensures.says c.queue_starts-queue.ensures.slots c.in-Some.ensures.says c.path_length-len.ensures (search rules)
+overflow_sub-result c =
+    let q = c.queue_starts-queue.ensures in
+    let k = c.in-Some.ensures in
+    len_some c.requires c.clear.ensures q.says q.slots k.says k.same.slots c.path_length-len.ensures
 
 pub overflow_sub-result-2 : goal.overflow_sub-result-2
-overflow_sub-result-2 c = odds_some c.requires c.clear.ensures c.queue_starts-queue.ensures.says c.queue_starts-queue.ensures.slots c.in-Some.ensures.says c.path_length-len.ensures c.write_path-unsaved.ensures.value (search rules)
+overflow_sub-result-2 c =
+    let q = c.queue_starts-queue.ensures in
+    let k = c.in-Some.ensures in
+    odds_some c.requires c.clear.ensures q.says q.slots k.says k.same.slots c.path_length-len.ensures c.write_path-unsaved.ensures.value
 
 pub returns : goal.returns
 returns c =
-    find_lasso c.requires c.clear.ensures c.queue_starts-queue.ensures.says c.queue_starts-queue.ensures.slots c.in-Some.ensures.says c.path_length-len.ensures c.write_path-unsaved.ensures.value
-    c.write_path-unsaved.ensures.report_after c.clear-2.ensures (search rules)
+    let q = c.queue_starts-queue.ensures in
+    let k = c.in-Some.ensures in
+    let p = c.write_path-unsaved.ensures in
+    find_lasso c.requires c.clear.ensures q.says q.slots k.says k.same.slots c.path_length-len.ensures p.value p.report_after c.clear-2.ensures
+    (search rules)
