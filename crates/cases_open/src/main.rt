@@ -13,7 +13,7 @@ use quote::Sheet;
 use std::{fmt, io};
 use table::{Refusal, Table};
 
-// What is printed as the sheet of a refused table, board and all. docs/RULES.md: "A quote that is refused is all zeros".
+// What is printed in place of a sheet where a table is refused: zeros, as C is told them (docs/RULES.md, "Refusal list").
 const ZEROS: Sheet = Sheet {
     slots: 0,
     edges: 0,

@@ -1,7 +1,7 @@
 // The queue of the slots that were met, and meeting a slot: its origin is written and it is queued, unless it was met before.
 ghost use Rattle.search.specs.Meet.{MeetAsks, MeetSays, SameQueue};
 
-// What the workspace holds stands in specs/Workspace.antt: 0, 1 or index + 2 in words of 32 bits, since the words are the caller's and lent through C.
+// What the workspace holds stands in specs/Workspace.antt: 0, 1 or index + 2 in words of 32 bits, since the words are the caller's, lent through C.
 #[derive(Drop)]
 pub(crate) struct Queue<'a> {
     pub(crate) work: &'a mut [u32],

@@ -19,6 +19,7 @@ pub(crate) fn scan(bytes: &[u8], t: Table, queue: &mut Queue) -> Option<usize>
     // The queue grows while it is read, so its end is tested at each turn.
     'queue: {
         while head < queue.tail {
+            // std has no `From<u32>` for usize.
             let x = queue.work[queue.slots + head] as usize;
             let r = Record::of_slot(x, n, m);
             let goal = table::has_goal(bytes, t, r.s);
