@@ -75,7 +75,7 @@ fn quote_each(rt: &impl Print, cases: &[Case]) -> io::Result<()> {
             s.edges,
             s.bytes
         )?;
-        // 8 for none, as docs/RULES.md, "Quote sheet", numbers the boards and the C interface tells them.
+        // 8 for none, as C is told (docs/RULES.md, "Quote sheet").
         let board = s.board.unwrap_or(8);
         println!(rt; "board {board}, members{}", Numbers(&s.members))?;
     }
