@@ -16,7 +16,7 @@ impl Queue<'_> {
     {
         let mut i = head;
         let mut len = 0;
-        // It goes from origin to origin and counts no index, so it is no `for`.
+        // This loop goes from origin to origin and counts no index, so it is no `for`.
         loop {
             len += 1;
             let x = writing::at(self.work, self.slots + i);
