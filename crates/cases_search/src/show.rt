@@ -13,7 +13,8 @@ pub(crate) const RISING: Pattern<u32> = Pattern {
 // A name, a table, and how many words the workspace and the report have.
 pub(crate) type Case<'a> = (&'a str, &'a [u8], usize, usize);
 
-// What a line says of the report past the run: how many of its words are as the pattern has them, or all of it.
+// What a line says of the report past the run: how many of its words are as the pattern has them, or all of it. A caller passes it down, as both are
+// printed after the search, which is called in one place.
 #[derive(Clone, Copy)]
 pub(crate) enum Rest {
     Kept,

@@ -18,7 +18,8 @@ pub struct Lasso {
     pub l: usize,
 }
 
-// The search of an accepted table, with buffers that are long enough. None: the goal holds.
+// The search of an accepted table, with buffers that are long enough. None: the goal holds. Bytes and counts go apart, here, in scan.rt and in
+// starts.rt, as in opening/src/faults.rt.
 fn find(bytes: &[u8], t: Table, work: &mut [u32], report: &mut [u32], slots: usize) -> Option<Lasso>
     requires { FindAsks bytes.now t slots work.old report.old }
     ensures { FindSays bytes.now work.old report.old result work.new report.new }
