@@ -37,7 +37,9 @@ fn counted(bytes: &[u8]) -> Result<Table, Refusal>
     Ok(t)
 }
 
-// Then lines 4 and 5: the parts stand where they must, and so do the rows.
+// Then lines 4 and 5: the parts stand where they must, and so do the rows. Not inlined, like `open`: so the loops of lines 6 to 8 stand first in a
+// function of their own, wherever the tests before them end (docs/SPEED.md, "Where a loop stands").
+#[inline(never)]
 fn laid_out(bytes: &[u8]) -> Result<Table, Refusal>
     ensures { result ≡ opened_by bytes.now (count_lines bytes.now ++ row_lines bytes.now) }
 {
@@ -52,6 +54,7 @@ fn laid_out(bytes: &[u8]) -> Result<Table, Refusal>
 }
 
 // Accepts or refuses the bytes: then lines 6 to 8, what the rows and the marks hold.
+#[inline(never)]
 pub fn open(bytes: &[u8]) -> Result<Table, Refusal>
     ensures { result ≡ open_of bytes.now }
 {

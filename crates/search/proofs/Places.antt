@@ -150,6 +150,10 @@ module _ {bytes : List ℕ} {t : Table} {slots head x : ℕ} {r : Record} {goal 
       pub y_is : y ≡ next_of live_flag bytes x (target bytes i) true
       y_is = slot_is true says d
 
+      -- which is one of the slots
+      pub y_in : next_of live_flag bytes x (target bytes i) true < slots_of bytes
+      y_in = (first_asks live_flag _ k.formed _ _ _ _ _ k.turned k.below).slot_in
+
       pub first_fits : MeetAsks slots work tail y (head + 2)
       first_fits = asks_as k.slots_are y_is (first_asks live_flag _ k.formed _ _ _ _ _ k.turned k.below)
 

@@ -1,5 +1,5 @@
 -- What holds while the queue is scanned: between two turns and within a row, and how the scan of the queue is left. Over any flag. Assumes nothing.
-use Rattle.std.specs.Prelude.{◌≡◌, Bool, List, ℕ, ◌≤◌, ◌<◌, Some, None}
+use Rattle.std.specs.Prelude.{◌≡◌, Bool, List, ℕ, ◌≤◌, ◌<◌, Option, Some, None}
 use Rattle.std.proofs.Common.{arith}
 use Rattle.order.specs.Turn.{Between}
 use Rattle.order.proofs.Turn.{search_ends}
@@ -46,6 +46,11 @@ pub record Within (F : Flag) (b : List ℕ) (t : Table) (S : ℕ) (w₀ w : List
   -- the words past the first 2S are as they were when the row began
   pub same : SameRest (slots_of b) w₀ w
 
+-- the same under another name for S
+pub within_as : {F : Flag} {b : List ℕ} {t : Table} {S S' : ℕ} {w₀ w : List ℕ} {head tail x : ℕ} {r : Record} {goal : Bool} {fair to i : ℕ} → S' ≡ S
+    → Within F b t S w₀ w head tail x r goal fair to i → Within F b t S' w₀ w head tail x r goal fair to i
+within_as e k = rw e k
+
 -- ---- how the scan of the queue is left: at its end, or in the middle of a row at a bad slot
 
 pub left_ended : {F : Flag} {b : List ℕ} {S S' : ℕ} {w₀ w : List ℕ} {head tail : ℕ} → S ≡ slots_of b → Waiting F b S' w₀ w head tail → tail ≤ head → ScanSays F b S w₀ None w
@@ -54,3 +59,7 @@ left_ended e v h = rw e (record { same = v.same; seen = search_ends v.between (o
 pub left_stopped : {F : Flag} {b : List ℕ} {S : ℕ} {w₀ w : List ℕ} {y head : ℕ} → S ≡ slots_of b → SameRest (slots_of b) w₀ w → Stopped F b (slots_of b) w head y
     → ScanSays F b S w₀ (Some head) w
 left_stopped e m k = rw e (record { same = m; seen = (_, k) })
+
+-- however it is left, the words past the first 2S are as they came
+pub left_same : {F : Flag} {b : List ℕ} {S : ℕ} {w₀ w : List ℕ} {r : Option ℕ} → ScanSays F b S w₀ r w → SameRest S w₀ w
+left_same k = k.same

@@ -8,7 +8,8 @@ ghost use Rattle.std.specs.Prelude.{◌≡◌, ◌≢◌, ◌⊎◌, length, tak
 ghost use Rattle.std.specs.Io.KnownBytes.{Appends, Consumes, IsAtEnd};
 ghost use Rattle.std.specs.IoError.{error_kind};
 ghost use Rattle.io.specs.Counts.{IsPrefixLen};
-ghost use Rattle.streams.specs.Counted.{count_of};
+ghost use Rattle.streams.specs.Counted.{count_of, part_of, PartCounts};
+ghost use Rattle.streams.specs.Known.{PartReads, PartReason};
 ghost use Rattle.streams.specs.declared.Failed.TheVariants.{Reading, Writing};
 
 use std::io;
@@ -44,9 +45,40 @@ impl From<io::Error> for Failed {
     }
 }
 
-// Reads until the input ends or the buffer is full, and answers how many bytes came. A pipe may deliver fewer bytes at a time than there is room for.
-// A read that a signal interrupts is made again, and is never the reason of a failure. A proved loop has to end, so its turns are counted, up to a
-// number that no run reaches.
+// What one read brought, or why it brought nothing.
+#[derive(Clone, Copy)]
+enum Part {
+    Bytes(usize),
+    End,
+    Interrupted(io::Error),
+    Failed(io::Error),
+}
+
+// What a read answers that brought bytes or none, or that failed, perhaps because a signal interrupted it.
+fn part_of(read: io::Result<usize>) -> Part
+    ensures value { result ≡ part_of read }
+    ensures part_counts { IfOk read (λ n. PartCounts result n) }
+    ensures reason { PartReason result }
+{
+    match read {
+        Ok(0) => Part::End,
+        Ok(n) => Part::Bytes(n),
+        Err(reason) if reason.kind() == ErrorKind::Interrupted => Part::Interrupted(reason),
+        Err(reason) => Part::Failed(reason),
+    }
+}
+
+// Reads once. A pipe may deliver fewer bytes than there is room for.
+fn read_part<R: io::Read>(input: &mut R, part: &mut [u8]) -> Part
+    ensures counts { PartCounts result (length part.old) }
+    ensures bytes { PartReads (R.remaining input.old) (R.remaining input.new) result part.new }
+    ensures reason { PartReason result }
+{
+    part_of(input.read(part))
+}
+
+// Reads until the input ends or the buffer is full, and answers how many bytes came. A read that a signal interrupts is made again, and is never
+// the reason of a failure. A proved loop has to end, so its turns are counted, up to a number that no run reaches.
 fn read_all<R: io::Read>(input: &mut R, table: &mut [u8; 4449]) -> Result<usize, Unread>
     ensures counts { IsPrefixLen (count_of result) table.new }
     ensures bytes { Consumes (R.remaining input.old) (R.remaining input.new) (take (count_of result) table.new) }
@@ -59,11 +91,11 @@ fn read_all<R: io::Read>(input: &mut R, table: &mut [u8; 4449]) -> Result<usize,
         if bytes.len() <= count {
             return Ok(count);
         }
-        match input.read(&mut bytes[count..]) {
-            Ok(0) => return Ok(count),
-            Ok(n) => count += n,
-            Err(reason) if reason.kind() == ErrorKind::Interrupted => continue,
-            Err(reason) => return Err(Unread { count, reason }),
+        match read_part(input, &mut bytes[count..]) {
+            Part::Bytes(n) => count += n,
+            Part::End => return Ok(count),
+            Part::Interrupted(_) => continue,
+            Part::Failed(reason) => return Err(Unread { count, reason }),
         }
     }
     let reason = io::Error::from(ErrorKind::TimedOut);

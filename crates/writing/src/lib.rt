@@ -15,12 +15,15 @@ pub fn put(part: &mut [u8], at: usize, x: usize)
     part[at..at + 4].copy_from_slice(&((x % 4294967296) as u32).to_le_bytes());
 }
 
-// Sets the first k words to 0.
+// Sets the first k words to 0. Not by `fill`: the wrong program that sets every other word could then only be written as a loop for which there is no
+// invariant, and its refusal would show nothing.
 pub fn clear(words: &mut [u32], k: usize)
     requires { k ≤ length words.old }
     ensures { words.new ≡ cleared k words.old }
 {
-    words[..k].fill(0);
+    for i in 0..k {
+        words[i] = 0;
+    }
 }
 
 // The word at index i. (std has no `From<u32>` for usize.)

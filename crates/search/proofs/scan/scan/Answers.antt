@@ -1,7 +1,7 @@
 -- Each fact that the check leaves is what is known at its place (proofs/Places.antt).
-use Rattle.std.proofs.Common.{true, false, arith, rules}
+use Rattle.std.proofs.Common.{◌∙◌, true, false, arith, rules}
 use Rattle.search.proofs.MeetLaws.{queue_trans, rest_trans}
-use Rattle.search.proofs.Scanning.{left_ended, left_stopped}
+use Rattle.search.proofs.Scanning.{within_as, left_ended, left_stopped}
 use Rattle.search.proofs.Places.{waiting_begins, waiting_goes_on, state_small, marks_inside, from_inside, to_inside, row_begun, next_inside, in_row, step_fits, stops, first_fits, other_fits, done_saved, done_unsaved, row_goes_on}
 use Rattle.search.proofs.scan.scan.Goals as goal
 use Rattle.search.proofs.scan.scan.Goals.{then-r-n, else-r-n}
@@ -70,9 +70,11 @@ loop-i-preserved c =
           let says = rw c.meet.ensures.same.slots at w.meet-then-r-n.ensures.says in
           let m = c.meet.ensures.says in
           let d = done_unsaved k c.step-saving.ensures c.slot-y.ensures c.is_bad.ensures c.if-is_bad.false m w.step-plain.ensures w.slot-z.ensures w.if-r-n.true says in
+          let e = c.meet.ensures.same in
+          let f = w.meet-then-r-n.ensures.same in
           rw w.queue-is (record {
-            row = rw (w.meet-then-r-n.ensures.same.slots, c.meet.ensures.same.slots) (row_goes_on c.loop-i.invariant.row d);
-            same = queue_trans c.loop-i.invariant.same (queue_trans c.meet.ensures.same w.meet-then-r-n.ensures.same);
+            row = within_as (omega (arith, e.slots, f.slots)) (row_goes_on c.loop-i.invariant.row d);
+            same = record { slots = omega (arith, c.loop-i.invariant.same.slots, e.slots, f.slots); words = f.words ∙ e.words ∙ c.loop-i.invariant.same.words };
           })
     ]
 
