@@ -1,4 +1,4 @@
--- The number whose four bytes are copied is what x leaves over of 2^32, and its bytes are those of the little-endian number x.
+-- The number whose four bytes are copied is the remainder of x by 2^32, and its bytes are those of the little-endian number x.
 use Rattle.std.specs.Int.{to_le_bytes, w32}
 use Rattle.std.proofs.Common.{◌≡◌, ◌∙◌, ◌/◌, ◌%◌, ◌+◌, ◌-◌, ℕ, [], ◌∷◌, arith, refl}
 use Rattle.table.specs.Layout.{little_endian}
